@@ -1,0 +1,11 @@
+pub mod Asks
+pub mod Causes
+pub mod Configuration
+pub mod Draw
+pub mod Ends
+pub mod History
+pub mod Interaction
+pub mod KindSet
+pub mod Kinds
+pub mod Stream
+pub mod Tally

@@ -1,0 +1,54 @@
+//! The names of fields.
+
+/// A field of a body, or what stands in for one in a refusal: the body itself, a name that no field has, or the
+/// identifier of a path.
+#[derive(Clone, Copy, Debug, PartialEq, Eq)]
+pub enum Name {
+    Items,
+    User,
+    Post,
+    Kind,
+    Seeds,
+    Steps,
+    Seed,
+    Kinds,
+    Reset,
+    Top,
+    Proof,
+    Hide,
+    Since,
+    Iterations,
+    Body,
+    Unknown,
+    Id,
+}
+
+impl Name {
+    ghost use Rattle.std.specs.Prelude.{◌≡◌};
+    ghost use Rattle.gj_request.specs.Names.{name_text};
+
+    /// Its text, in lower case.
+    pub fn text(self) -> &'static str
+        ensures { result.now ≡ name_text self }
+    {
+        match self {
+            Name::Items => "items",
+            Name::User => "user",
+            Name::Post => "post",
+            Name::Kind => "kind",
+            Name::Seeds => "seeds",
+            Name::Steps => "steps",
+            Name::Seed => "seed",
+            Name::Kinds => "kinds",
+            Name::Reset => "reset",
+            Name::Top => "top",
+            Name::Proof => "proof",
+            Name::Hide => "hide",
+            Name::Since => "since",
+            Name::Iterations => "iterations",
+            Name::Body => "body",
+            Name::Unknown => "unknown",
+            Name::Id => "id",
+        }
+    }
+}
