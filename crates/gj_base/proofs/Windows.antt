@@ -1,13 +1,15 @@
 -- What the window of a longer history is.
-use Rattle.std.proofs.Common.{◌≡◌, ℕ, ◌+◌, ◌-◌, ◌*◌, ◌/◌, ◌≤◌, ◌<◌, max, List, [], ◌∷◌, ◌++◌, length, take, drop, get_or, refl, sym, ap, ◌∙◌, le_trans, arith, length-append, length-drop, mul-le-mul_left}
+use Rattle.std.proofs.Common.{◌^◌, ◌%◌, ◌⊎◌, inl, inr, ◌≡◌, ℕ, ◌+◌, ◌-◌, ◌*◌, ◌/◌, ◌≤◌, ◌<◌, max, List, [], ◌∷◌, ◌++◌, length, take, drop, get_or, refl, sym, ap, ◌∙◌, subst, le_trans, arith, length-append, length-drop, mul-le-mul_left}
 use Rattle.std.proofs.lemmas.Nat.{le-div}
-use Rattle.std.proofs.Math.Nat.{mul-div-le, div-mul-le_self}
+use Rattle.std.proofs.lemmas.Bool.{cases_lt}
+use Rattle.std.proofs.Math.Nat.{mul-div-le, div-mul-le_self, mul-mod_right}
 use Rattle.std.proofs.lemmas.List.{take_more, drop-append-le, drop-drop, append-nil, append_assoc, map-append, length-map}
 use Rattle.gj_base.specs.declared.item.Item.{Item}
 use Rattle.gj_base.specs.declared.item.Entry.{Entry}
 use Rattle.gj_base.specs.declared.history.History.{History}
 use Rattle.gj_base.specs.declared.history.Shown.{Shown}
-use Rattle.gj_base.specs.History.{IsWindow, base, windowed, more, end_of, length_of, items_of, entries_by, window, extend, StandsFor}
+use Rattle.gj_base.specs.Configuration.{Configuration, IsConfiguration}
+use Rattle.gj_base.specs.History.{IsWindow, empty_shown, base, windowed, more, end_of, length_of, items_of, entries_by, window, extend, StandsFor}
 
 -- a later start for a longer history
 pub base_mono : (c s m n : ℕ) → 0 < c → m ≤ n → base c s m ≤ base c s n
@@ -118,3 +120,118 @@ stands_end w h some is =
     let a : end_of w ≡ end_of (window w.capacity w.segments h) = ap end_of is in
     let b : end_of (window w.capacity w.segments h) ≡ h.first + length (items_of h.entries) = windowed_end w.capacity w.segments h.first (items_of h.entries) some in
     a ∙ (b ∙ ap (λ (n : ℕ). h.first + n) (length-map h.entries (λ (e : Entry). e.item)))
+
+-- a history's next interaction is in its window, which has room for it
+room_over : (c q d s n : ℕ) → q + 1 ≤ d + s → n < c * q + c → n < c * d + c * s
+room_over c q d s n over h =
+    let m : c * (q + 1) ≤ c * (d + s) = mul-le-mul_left c over in
+    omega arith
+
+room_at : (c q s n : ℕ) → n < c * q + c → n < c * (q + 1 - s) + c * s
+room_at c q s n h = room_over c q (q + 1 - s) s n (omega arith) h
+
+pub base_room : (c s n : ℕ) → 0 < c → n < base c s (n + 1) + c * s
+unfolding base
+base_room c s n pos =
+    let e : n + 1 - 1 ≡ n = omega arith in
+    rw e (room_at c (n / c) s n (omega arith))
+
+pub base_below : (c s n : ℕ) → 0 < c → 1 ≤ s → base c s (n + 1) ≤ n
+unfolding base
+base_below c s n pos some =
+    let e : n + 1 - 1 ≡ n = omega arith in
+    rw e (grind arith)
+
+pub base_aligned : (c s n : ℕ) → base c s n % c ≡ 0
+unfolding base
+base_aligned c s n = mul-mod_right c ((n - 1) / c + 1 - s)
+
+max_is : (f b : ℕ) → (max f b ≡ f) ⊎ (max f b ≡ b)
+max_is f b = elim (cases_lt f b) [
+  | inl h ↦ inr (omega arith)
+  | inr h ↦ inl (omega arith)
+]
+
+max_aligned : (c f b : ℕ) → f % c ≡ 0 → b % c ≡ 0 → max f b % c ≡ 0
+max_aligned c f b af ab = elim (max_is f b) [
+  | inl e ↦ rw e af
+  | inr e ↦ rw e ab
+]
+
+-- the window with more interactions is a window
+pub windowed_is : (c s f : ℕ) (xs : List Item) → IsConfiguration c s → f % c ≡ 0 → f + length xs ≤ 2 ^ 48 → IsWindow (windowed c s f xs)
+unfolding windowed
+windowed_is c s f xs conf aligned bounded =
+    let some = conf.segments_low in
+    let n : ℕ = f + length xs in
+    let b : ℕ = base c s n in
+    let ends_at : max f b + length (drop (max f b - f) xs) ≡ n = windowed_end c s f xs some in
+    let same : base c s (max f b + length (drop (max f b - f) xs)) ≡ b = ap (base c s) ends_at in
+    record {
+      capacity_low = conf.capacity_low;
+      capacity_high = conf.capacity_high;
+      segments_low = conf.segments_low;
+      segments_high = conf.segments_high;
+      aligned = max_aligned c f b aligned (base_aligned c s n);
+      retained = (let low : base c s (max f b + length (drop (max f b - f) xs)) ≤ max f b = omega (arith, same) in low);
+      bounded = omega (arith, ends_at);
+    }
+
+-- the window with one more interaction, as a list slides
+pub more_one : (w : Shown) (x : Item) (b : ℕ) → IsWindow w → b ≡ base w.capacity w.segments (end_of w + 1)
+    → more w (x ∷ []) ≡ record { capacity = w.capacity; segments = w.segments; first = w.first + (b - w.first); items = drop (b - w.first) w.items ++ x ∷ [] }
+unfolding windowed
+more_one w x b is e =
+    let low = is.capacity_low in
+    let pos : 0 < w.capacity = omega arith in
+    let n : w.first + length (w.items ++ x ∷ []) ≡ end_of w + 1 = omega (arith, length-append w.items (x ∷ [])) in
+    let at : base w.capacity w.segments (w.first + length (w.items ++ x ∷ [])) ≡ b = ap (base w.capacity w.segments) n ∙ sym e in
+    let below : b ≤ end_of w = omega (arith, e, base_below w.capacity w.segments (end_of w) pos is.segments_low) in
+    let from : max w.first (base w.capacity w.segments (w.first + length (w.items ++ x ∷ []))) ≡ w.first + (b - w.first) = ap (max w.first) at ∙ (let m : max w.first b ≡ w.first + (b - w.first) = omega arith in m) in
+    let gap : max w.first (base w.capacity w.segments (w.first + length (w.items ++ x ∷ []))) - w.first ≡ b - w.first = ap (λ (k : ℕ). k - w.first) from ∙ (let m : w.first + (b - w.first) - w.first ≡ b - w.first = omega arith in m) in
+    let cut : b - w.first ≤ length w.items = omega arith in
+    let items : drop (max w.first (base w.capacity w.segments (w.first + length (w.items ++ x ∷ []))) - w.first) (w.items ++ x ∷ []) ≡ drop (b - w.first) w.items ++ x ∷ [] =
+    ap (λ (k : ℕ). drop k (w.items ++ x ∷ [])) gap ∙ drop-append-le (b - w.first) w.items (x ∷ []) cut in
+    λ i. record { capacity = w.capacity; segments = w.segments; first = from i; items = items i }
+
+-- a list that has slid to the base of the longer history is the longer window
+pub slid : (w : Shown) (x : Item) (b f : ℕ) (xs : List Item) → IsWindow w → b ≡ base w.capacity w.segments (end_of w + 1)
+    → f ≡ w.first + (b - w.first) → xs ≡ drop (b - w.first) w.items ++ x ∷ []
+    → record { capacity = w.capacity; segments = w.segments; first = f; items = xs } ≡ more w (x ∷ [])
+slid w x b f xs is e at items =
+    let same : record { capacity = w.capacity; segments = w.segments; first = f; items = xs } ≡ record { capacity = w.capacity; segments = w.segments; first = w.first + (b - w.first); items = drop (b - w.first) w.items ++ x ∷ [] } =
+    λ i. record { capacity = w.capacity; segments = w.segments; first = at i; items = items i } in
+    same ∙ sym (more_one w x b is e)
+
+pub slid_is : (w : Shown) (x : Item) (b f : ℕ) (xs : List Item) → IsWindow w → b ≡ base w.capacity w.segments (end_of w + 1)
+    → f ≡ w.first + (b - w.first) → xs ≡ drop (b - w.first) w.items ++ x ∷ [] → end_of w < 2 ^ 48
+    → IsWindow (record { capacity = w.capacity; segments = w.segments; first = f; items = xs })
+slid_is w x b f xs is e at items room =
+    let conf : IsConfiguration w.capacity w.segments = record { capacity_low = is.capacity_low; capacity_high = is.capacity_high; segments_low = is.segments_low; segments_high = is.segments_high } in
+    let bounded : w.first + length (w.items ++ x ∷ []) ≤ 2 ^ 48 = omega (arith, length-append w.items (x ∷ [])) in
+    subst IsWindow (sym (slid w x b f xs is e at items)) (windowed_is w.capacity w.segments w.first (w.items ++ x ∷ []) conf is.aligned bounded)
+
+-- a window has at most so many interactions
+pub window_few : (w : Shown) → IsWindow w → length w.items ≤ w.capacity * w.segments
+window_few w is = elim (cases_lt 0 (length w.items)) [
+  | inl some ↦
+      let low = is.capacity_low in
+      let n : end_of w - 1 + 1 ≡ end_of w = omega arith in
+      let room = base_room w.capacity w.segments (end_of w - 1) (omega arith) in
+      let at : base w.capacity w.segments (end_of w - 1 + 1) ≡ base w.capacity w.segments (end_of w) = ap (base w.capacity w.segments) n in
+      omega (arith, room, at, is.retained)
+  | inr none ↦ omega arith
+]
+
+-- no interaction is a window
+pub empty_is : (c : Configuration) (start : ℕ) → IsConfiguration c.capacity c.segments → start % c.capacity ≡ 0 → start < 2 ^ 48 → IsWindow (empty_shown c start)
+empty_is c start conf aligned room = record {
+  capacity_low = conf.capacity_low;
+  capacity_high = conf.capacity_high;
+  segments_low = conf.segments_low;
+  segments_high = conf.segments_high;
+  aligned = aligned;
+  retained = (let n : start + 0 ≡ start = omega arith in
+      let low : base c.capacity c.segments (start + 0) ≤ start = omega (arith, base_le c.capacity c.segments (start + 0) conf.segments_low) in low);
+  bounded = (let high : start + 0 ≤ 2 ^ 48 = omega arith in high);
+}

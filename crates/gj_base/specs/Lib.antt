@@ -7,5 +7,6 @@ pub mod History
 pub mod Interaction
 pub mod KindSet
 pub mod Kinds
+pub mod ListGraphs
 pub mod Stream
 pub mod Tally
