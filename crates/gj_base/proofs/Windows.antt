@@ -235,3 +235,11 @@ empty_is c start conf aligned room = record {
       let low : base c.capacity c.segments (start + 0) ≤ start = omega (arith, base_le c.capacity c.segments (start + 0) conf.segments_low) in low);
   bounded = (let high : start + 0 ≤ 2 ^ 48 = omega arith in high);
 }
+
+-- the law of the window, over histories
+pub window_longer : (c s : ℕ) (h : History) (es : List Entry) → IsConfiguration c s → more (window c s h) (items_of es) ≡ window c s (extend h es)
+window_longer c s h es conf =
+    let low = conf.capacity_low in
+    let pos : 0 < c = omega arith in
+    windowed_more c s h.first (items_of h.entries) (items_of es) pos conf.segments_low
+    ∙ ap (windowed c s h.first) (sym (map-append (λ (e : Entry). e.item) h.entries es))
