@@ -1,1 +1,5 @@
+pub mod Forms
 pub mod Names
+pub mod Requests
+pub mod Results
+pub mod Tables

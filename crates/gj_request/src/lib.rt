@@ -1,6 +1,13 @@
 //! What the bodies and paths of messages ask for.
+//!
+//! Contracts see a body as the JSON value that `serde_json` promises for its bytes, and say which ask or which refusal
+//! it is. `read_request` takes memory; the names take none.
 #![tactic(auto)]
 
 mod name;
+mod refusal;
+mod request;
 
 pub use name::Name;
+pub use refusal::Refusal;
+pub use request::read_request;

@@ -1,0 +1,83 @@
+-- What a request asks for: its route, the identifier of its path, and the bytes of its body. Own.
+use Rattle.std.specs.Prelude.{◌≤◌, ℕ, ◌+◌, ◌-◌, ◌*◌, ◌==◌, ◌&&◌, nat_le, not, Bool, true, false, if◌then◌else◌, List, length, fold, Option, Some, None, Result, Ok, Err}
+use Rattle.std.specs.List.{list_all}
+use Rattle.std.specs.Char.{is_ascii_digit}
+use Rattle.std.specs.Str.{is_utf8}
+use Rattle.serde_json.specs.Data.{Data}
+use Rattle.serde_json.specs.Read.{read}
+use Rattle.gj_base.specs.declared.ask.Route.{Route}
+use Rattle.gj_base.specs.declared.ask.Route.TheVariants as routes
+use Rattle.gj_base.specs.declared.ask.Query.TheVariants as queries
+use Rattle.gj_base.specs.declared.ask.Ask.{Ask}
+use Rattle.gj_base.specs.declared.ask.Ask.TheVariants.{Items, Query}
+use Rattle.gj_request.specs.Results.{◌>>=◌, ranged}
+use Rattle.gj_request.specs.Tables.{Row, Builder, read_by, batch_rows, walk_rows, subgraph_rows, similar_rows}
+use Rattle.gj_request.specs.declared.name.Name.TheVariants as names
+use Rattle.gj_request.specs.declared.refusal.Refusal.{Refusal}
+use Rattle.gj_request.specs.declared.refusal.Refusal.TheVariants.{Json, Field}
+
+-- the routes whose path ends in an identifier
+abbrev pub has_id : Route → Bool
+has_id routes.User = true
+has_id routes.Post = true
+has_id _ = false
+
+-- the JSON value that a text is
+unfoldable pub tree_of : List ℕ → Option Data
+tree_of text = if is_utf8 text then read text else None
+
+abbrev pub parsed : Option Data → Result Data Refusal
+parsed None = Err Json
+parsed (Some tree) = Ok tree
+
+-- what is built of a body by a table
+abbrev pub body_by : {A : Type 0} (rows : List Row) → Builder rows A → List ℕ → Result A Refusal
+body_by rows build body = do
+  tree ← parsed (tree_of body)
+  read_by rows build names.Body tree
+
+-- one or more ASCII digits
+abbrev pub are_digits : List ℕ → Bool
+are_digits text = not (length text == 0) && list_all is_ascii_digit text
+
+-- the number that digits spell
+abbrev pub digits_value : List ℕ → ℕ
+digits_value text = fold (λ n digit. 10 * n + (digit - 48)) 0 text
+
+-- the identifier at the end of a path
+unfoldable pub path_id : Option (List ℕ) → Result ℕ Refusal
+path_id None = Err (Field names.Id)
+path_id (Some text) = if are_digits text then ranged names.Id (nat_le (digits_value text) 9223372036854775807) (digits_value text) else Err (Field names.Id)
+
+-- what each route asks for
+abbrev pub batch_asked : List ℕ → Result Ask Refusal
+batch_asked = body_by batch_rows Items
+
+abbrev pub walk_asked : List ℕ → Result Ask Refusal
+walk_asked = body_by walk_rows (λ seeds steps seed mask reset top proof hide since.
+    Query (queries.Walk (record { seeds = seeds; steps = steps; seed = seed; mask = mask; reset = reset; top = top; proof = proof; hide = hide; since = since })))
+
+abbrev pub subgraph_asked : List ℕ → Result Ask Refusal
+subgraph_asked = body_by subgraph_rows (λ seeds iterations mask top proof since.
+    Query (queries.Sub (record { seeds = seeds; iterations = iterations; mask = mask; top = top; proof = proof; since = since })))
+
+abbrev pub similar_asked : List ℕ → Result Ask Refusal
+similar_asked = body_by similar_rows (λ post steps seed mask top since.
+    Query (queries.Sim (record { post = post; steps = steps; seed = seed; mask = mask; top = top; since = since })))
+
+-- what a request asks for
+unfoldable pub asked : Route → Option (List ℕ) → List ℕ → Result Ask Refusal
+asked routes.Interactions id body = batch_asked body
+asked routes.Walk id body = walk_asked body
+asked routes.Subgraph id body = subgraph_asked body
+asked routes.Similar id body = similar_asked body
+asked routes.User id body = path_id id >>= λ user. Ok (Query (queries.User user))
+asked routes.Post id body = path_id id >>= λ post. Ok (Query (queries.Post post))
+asked routes.Stats id body = Ok (Query queries.Stats)
+
+-- a batch has interactions, and not too many; an identifier is one
+abbrev pub IsAsked : Ask → Type 0
+IsAsked (Items list) = (1 ≤ length list) × (length list ≤ 4096)
+IsAsked (Query (queries.User user)) = user ≤ 9223372036854775807
+IsAsked (Query (queries.Post post)) = post ≤ 9223372036854775807
+IsAsked (Query _) = Unit {0}
