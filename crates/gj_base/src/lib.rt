@@ -7,6 +7,7 @@
 
 mod ask;
 mod conf;
+mod draw;
 mod graph;
 mod history;
 mod item;
@@ -15,12 +16,14 @@ mod list;
 mod mask;
 mod memory;
 mod side;
+mod tally;
 
 pub use ask::{
     Ask, MAX_BATCH, MAX_ITERATIONS, MAX_PROOF, MAX_RESET, MAX_SEEDS, MAX_STEPS, MAX_TOP, Query,
     Route, SimAsk, SubAsk, WalkAsk,
 };
 pub use conf::{Conf, HISTORY_END, MAX_CAPACITY, MAX_SEGMENTS, MIN_CAPACITY};
+pub use draw::{pick, pick_end, resets};
 pub use graph::{Graph, Grow, add_all};
 pub use history::{History, Shown};
 pub use item::{Entry, Item, MAX_ID, Receipt};
@@ -29,3 +32,4 @@ pub use list::{IdList, ItemList, List};
 pub use mask::Mask;
 pub use memory::Memory;
 pub use side::Side;
+pub use tally::Tally;
