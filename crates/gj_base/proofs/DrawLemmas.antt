@@ -1,5 +1,5 @@
 -- What a word picks among the ends of a vertex, and the words of a generator one by one.
-use Rattle.std.proofs.Common.{◌≡◌, ℕ, suc, ◌-◌, ◌+◌, ◌<◌, ◌≤◌, ◌==◌, ◌∙◌, if◌then◌else◌, cond, List, [], ◌∷◌, length, get_or, Option, Some, None, refl, sym, ap, arith}
+use Rattle.std.proofs.Common.{◌≡◌, ℕ, zero, suc, ◌-◌, ◌+◌, ◌<◌, ◌≤◌, ◌==◌, ◌∙◌, if◌then◌else◌, cond, List, [], ◌∷◌, length, get_or, Option, Some, None, refl, sym, ap, arith}
 use Rattle.std.proofs.lemmas.Bool.{cond-true, cond-false, eq-eqb, ne_eqb}
 use Rattle.std.proofs.lemmas.Option.{get_or_from_slice_get}
 use Rattle.std.specs.List.{slice_get}
@@ -40,3 +40,8 @@ words_none step k i s all = let n : k - i ≡ 0 = omega arith in rw n refl
 pub after_none : {S : Type 0} (step : S → ℕ × S) (k i : ℕ) (s : S) → k ≤ i → after step (k - i) s ≡ s
 unfolding after
 after_none step k i s all = let n : k - i ≡ 0 = omega arith in rw n refl
+
+pub length-words : {S : Type 0} (step : S → ℕ × S) (n : ℕ) (s : S) → length (words step n s) ≡ n
+unfolding words
+length-words step zero s = refl
+length-words step (suc n) s = let rest : length (words step n (step s).1) ≡ n = length-words step n (step s).1 in omega arith
