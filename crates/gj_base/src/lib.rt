@@ -8,6 +8,7 @@
 mod ask;
 mod calls;
 mod conf;
+mod draw;
 mod graph;
 mod history;
 mod index;
@@ -25,6 +26,7 @@ mod outside;
 mod side;
 mod sink;
 mod source;
+mod tally;
 
 pub use ask::{
     Ask, MAX_BATCH, MAX_ITERATIONS, MAX_PROOF, MAX_RESET, MAX_SEEDS, MAX_STEPS, MAX_TOP, Query,
@@ -32,6 +34,7 @@ pub use ask::{
 };
 pub use calls::Calls;
 pub use conf::{Conf, HISTORY_END, MAX_CAPACITY, MAX_SEGMENTS, MIN_CAPACITY};
+pub use draw::{pick, pick_end, resets};
 pub use graph::{Graph, Grow, add_all};
 pub use history::{History, Shown};
 pub use index::{Index, IndexError};
@@ -49,3 +52,4 @@ pub use outside::Failed;
 pub use side::Side;
 pub use sink::Sink;
 pub use source::Source;
+pub use tally::Tally;
