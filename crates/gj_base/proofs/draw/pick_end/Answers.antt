@@ -1,4 +1,4 @@
-use Rattle.std.proofs.Common.{◌∙◌, sym, ap, Some, arith}
+use Rattle.std.proofs.Common.{◌∙◌, sym}
 use Rattle.gj_base.proofs.DrawLemmas.{end_picked_none, end_picked_some}
 use Rattle.gj_base.proofs.draw.pick_end.Goals as goal
 
