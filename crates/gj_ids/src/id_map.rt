@@ -109,7 +109,7 @@ impl IdMap {
         self.room - self.len
     }
 
-    /// Removes all identifiers. It takes no memory, and touches the slots only once in 2^32 calls.
+    /// Removes all identifiers. It takes no memory, and touches the slots only once in 2^32 - 1 calls.
     pub fn clear(&mut self)
         ensures empty { self.new.ids ≡ [] }
         ensures room { self.new.room ≡ self.old.room }
