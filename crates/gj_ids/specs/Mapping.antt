@@ -4,6 +4,7 @@ use Rattle.gj_ids.specs.declared.id_map.IdMap.TheInside.{Inside}
 use Rattle.gj_ids.specs.Numbering.{Numbering}
 use Rattle.gj_ids.specs.Slots.{IsTable}
 
+-- the identifiers so far, and the room
 abbrev pub numbering_of : Inside → Numbering
 numbering_of map = record { ids = take map.len map.ids.items; room = map.room }
 

@@ -9,12 +9,15 @@ use Rattle.gj_ids.specs.Numbering.{HasNoRepeat, place_of}
 unfoldable pub first_slot_of : ℕ → ℕ → ℕ
 first_slot_of shift id = id * 11400714819323198485 % 2 ^ 64 / 2 ^ shift
 
+-- a slot that was never used, which also stands for one past the last
 abbrev pub blank : Slot
 blank = record { stamp = 0; place = 0 }
 
+-- the stamp of the slot j
 abbrev pub stamp_at : List Slot → ℕ → ℕ
 stamp_at slots j = (slice_index_or slots j blank).stamp
 
+-- the place that the slot j names
 abbrev pub place_at : List Slot → ℕ → ℕ
 place_at slots j = (slice_index_or slots j blank).place
 

@@ -115,7 +115,8 @@ impl Table {
         requires spare { length ids.now < length self.now.slots.items }
         ensures inside { result < length self.now.slots.items }
         ensures stop { IsStop self.now.slots.items self.now.stamp ids.now id result }
-        ensures way { IsWay (IsOther self.now.slots.items self.now.stamp ids.now id) (length self.now.slots.items) (first_slot_of self.now.shift id) result }
+        ensures way { IsWay (IsOther self.now.slots.items self.now.stamp ids.now id)
+            (length self.now.slots.items) (first_slot_of self.now.shift id) result }
     {
         let first = first_slot(self.shift, id);
         match self.scan(ids, id, first, self.slots.len()) {
@@ -134,8 +135,10 @@ impl Table {
         requires placed { IsPlaced self.now.slots.items self.now.stamp ids.now }
         ensures within { IfSome result (λ at. (from ≤ at) × (at < to)) }
         ensures stop { IfSome result (IsStop self.now.slots.items self.now.stamp ids.now id) }
-        ensures passed { IfSome result (λ at. (j : ℕ) → from ≤ j → j < at → IsOther self.now.slots.items self.now.stamp ids.now id j) }
-        ensures none { IfNone result ((j : ℕ) → from ≤ j → j < to → IsOther self.now.slots.items self.now.stamp ids.now id j) }
+        ensures passed { IfSome result (λ at.
+            (j : ℕ) → from ≤ j → j < at → IsOther self.now.slots.items self.now.stamp ids.now id j) }
+        ensures none { IfNone result
+            ((j : ℕ) → from ≤ j → j < to → IsOther self.now.slots.items self.now.stamp ids.now id j) }
     {
         for at in from..to {
             let slot = self.slots[at];
