@@ -1,0 +1,4 @@
+pub mod Places
+pub mod Probing
+pub mod Putting
+pub mod NumberingLemmas
