@@ -4,7 +4,11 @@
 //! it is. `read_request` takes memory; the names take none.
 #![tactic(auto)]
 
+mod fields;
+mod forms;
+mod items;
 mod name;
+mod path;
 mod refusal;
 mod request;
 
