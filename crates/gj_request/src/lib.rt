@@ -15,3 +15,6 @@ mod request;
 pub use name::Name;
 pub use refusal::Refusal;
 pub use request::read_request;
+
+#[cfg(test)]
+mod tests;

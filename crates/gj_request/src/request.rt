@@ -71,6 +71,12 @@ fn read_batch(alloc: Global, tree: &Value) -> Result<Ask, Refusal>
     Ok(Ask::Items(items))
 }
 
+/// The results of a query that does not say how many.
+const DEFAULT_TOP: u32 = 10;
+
+/// The seed users in a social proof, where a query does not say how many.
+const DEFAULT_PROOF: u32 = 3;
+
 /// The names of a walk's fields.
 const WALK: [Name; 9] = [
     Name::Seeds,
@@ -95,8 +101,8 @@ fn read_walk(alloc: Global, tree: &Value) -> Result<Ask, Refusal>
     let seed = number(tree, Name::Seed, 0, u64::MAX, Some(0))?;
     let mask = kinds(tree, Name::Kinds)?;
     let reset = small(tree, Name::Reset, 0, MAX_RESET, Some(0))?;
-    let top = small(tree, Name::Top, 1, MAX_TOP, Some(10))?;
-    let proof = small(tree, Name::Proof, 0, MAX_PROOF, Some(3))?;
+    let top = small(tree, Name::Top, 1, MAX_TOP, Some(DEFAULT_TOP))?;
+    let proof = small(tree, Name::Proof, 0, MAX_PROOF, Some(DEFAULT_PROOF))?;
     let hide = truth(tree, Name::Hide, false)?;
     let since = number(tree, Name::Since, 0, HISTORY_END, Some(0))?;
     Ok(Ask::Query(Query::Walk(WalkAsk {
@@ -131,8 +137,8 @@ fn read_subgraph(alloc: Global, tree: &Value) -> Result<Ask, Refusal>
     let seeds = ids(alloc, tree, Name::Seeds)?;
     let iterations = small(tree, Name::Iterations, 1, MAX_ITERATIONS, None)?;
     let mask = kinds(tree, Name::Kinds)?;
-    let top = small(tree, Name::Top, 1, MAX_TOP, Some(10))?;
-    let proof = small(tree, Name::Proof, 0, MAX_PROOF, Some(3))?;
+    let top = small(tree, Name::Top, 1, MAX_TOP, Some(DEFAULT_TOP))?;
+    let proof = small(tree, Name::Proof, 0, MAX_PROOF, Some(DEFAULT_PROOF))?;
     let since = number(tree, Name::Since, 0, HISTORY_END, Some(0))?;
     Ok(Ask::Query(Query::Sub(SubAsk {
         seeds,
@@ -164,7 +170,7 @@ fn read_similar(tree: &Value) -> Result<Ask, Refusal>
     let steps = small(tree, Name::Steps, 1, MAX_STEPS, None)?;
     let seed = number(tree, Name::Seed, 0, u64::MAX, Some(0))?;
     let mask = kinds(tree, Name::Kinds)?;
-    let top = small(tree, Name::Top, 1, MAX_TOP, Some(10))?;
+    let top = small(tree, Name::Top, 1, MAX_TOP, Some(DEFAULT_TOP))?;
     let since = number(tree, Name::Since, 0, HISTORY_END, Some(0))?;
     Ok(Ask::Query(Query::Sim(SimAsk {
         post,
