@@ -33,15 +33,15 @@ truth_of name value = formed name (as_bool value)
 abbrev pub kind_named : List ℕ → Option Kind
 kind_named text = find (λ kind. bytes_eq text (kind_name kind)) (Click ∷ Favorite ∷ Retweet ∷ Reply ∷ Tweet ∷ [])
 
+abbrev pub in_list : Name → Option Kind → Result Kind Refusal
+in_list name None = Err (Range name)
+in_list name (Some kind) = Ok kind
+
 -- a kind, by its name
 unfoldable pub kind_of : Name → Data → Result Kind Refusal
 kind_of name value = do
   text ← formed name (as_str value)
   in_list name (kind_named text)
-  where
-    in_list : Name → Option Kind → Result Kind Refusal
-    in_list name None = Err (Range name)
-    in_list name (Some kind) = Ok kind
 
 -- an array with at least one element and at most so many
 abbrev pub array_of : ℕ → Name → Data → Result Items Refusal

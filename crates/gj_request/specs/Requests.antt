@@ -11,7 +11,7 @@ use Rattle.gj_base.specs.declared.ask.Query.TheVariants as queries
 use Rattle.gj_base.specs.declared.ask.Ask.{Ask}
 use Rattle.gj_base.specs.declared.ask.Ask.TheVariants.{Items, Query}
 use Rattle.gj_request.specs.Results.{◌>>=◌, ranged}
-use Rattle.gj_request.specs.Tables.{Row, Builder, read_by, batch_rows, walk_rows, subgraph_rows, similar_rows}
+use Rattle.gj_request.specs.Tables.{read_by, batch_rows, walk_rows, subgraph_rows, similar_rows}
 use Rattle.gj_request.specs.declared.name.Name.TheVariants as names
 use Rattle.gj_request.specs.declared.refusal.Refusal.{Refusal}
 use Rattle.gj_request.specs.declared.refusal.Refusal.TheVariants.{Json, Field}
@@ -30,12 +30,6 @@ abbrev pub parsed : Option Data → Result Data Refusal
 parsed None = Err Json
 parsed (Some tree) = Ok tree
 
--- what is built of a body by a table
-abbrev pub body_by : {A : Type 0} (rows : List Row) → Builder rows A → List ℕ → Result A Refusal
-body_by rows build body = do
-  tree ← parsed (tree_of body)
-  read_by rows build names.Body tree
-
 -- one or more ASCII digits
 abbrev pub are_digits : List ℕ → Bool
 are_digits text = not (length text == 0) && list_all is_ascii_digit text
@@ -49,28 +43,28 @@ unfoldable pub path_id : Option (List ℕ) → Result ℕ Refusal
 path_id None = Err (Field names.Id)
 path_id (Some text) = if are_digits text then ranged names.Id (nat_le (digits_value text) 9223372036854775807) (digits_value text) else Err (Field names.Id)
 
--- what each route asks for
-abbrev pub batch_asked : List ℕ → Result Ask Refusal
-batch_asked = body_by batch_rows Items
+-- what the body of each route asks for, as a JSON value
+unfoldable pub batch_of : Data → Result Ask Refusal
+batch_of = read_by batch_rows Items names.Body
 
-abbrev pub walk_asked : List ℕ → Result Ask Refusal
-walk_asked = body_by walk_rows (λ seeds steps seed mask reset top proof hide since.
-    Query (queries.Walk (record { seeds = seeds; steps = steps; seed = seed; mask = mask; reset = reset; top = top; proof = proof; hide = hide; since = since })))
+unfoldable pub walk_of : Data → Result Ask Refusal
+walk_of = read_by walk_rows (λ seeds steps seed mask reset top proof hide since.
+    Query (queries.Walk (record { seeds = seeds; steps = steps; seed = seed; mask = mask; reset = reset; top = top; proof = proof; hide = hide; since = since }))) names.Body
 
-abbrev pub subgraph_asked : List ℕ → Result Ask Refusal
-subgraph_asked = body_by subgraph_rows (λ seeds iterations mask top proof since.
-    Query (queries.Sub (record { seeds = seeds; iterations = iterations; mask = mask; top = top; proof = proof; since = since })))
+unfoldable pub subgraph_of : Data → Result Ask Refusal
+subgraph_of = read_by subgraph_rows (λ seeds iterations mask top proof since.
+    Query (queries.Sub (record { seeds = seeds; iterations = iterations; mask = mask; top = top; proof = proof; since = since }))) names.Body
 
-abbrev pub similar_asked : List ℕ → Result Ask Refusal
-similar_asked = body_by similar_rows (λ post steps seed mask top since.
-    Query (queries.Sim (record { post = post; steps = steps; seed = seed; mask = mask; top = top; since = since })))
+unfoldable pub similar_of : Data → Result Ask Refusal
+similar_of = read_by similar_rows (λ post steps seed mask top since.
+    Query (queries.Sim (record { post = post; steps = steps; seed = seed; mask = mask; top = top; since = since }))) names.Body
 
 -- what a request asks for
 unfoldable pub asked : Route → Option (List ℕ) → List ℕ → Result Ask Refusal
-asked routes.Interactions id body = batch_asked body
-asked routes.Walk id body = walk_asked body
-asked routes.Subgraph id body = subgraph_asked body
-asked routes.Similar id body = similar_asked body
+asked routes.Interactions id body = parsed (tree_of body) >>= batch_of
+asked routes.Walk id body = parsed (tree_of body) >>= walk_of
+asked routes.Subgraph id body = parsed (tree_of body) >>= subgraph_of
+asked routes.Similar id body = parsed (tree_of body) >>= similar_of
 asked routes.User id body = path_id id >>= λ user. Ok (Query (queries.User user))
 asked routes.Post id body = path_id id >>= λ post. Ok (Query (queries.Post post))
 asked routes.Stats id body = Ok (Query queries.Stats)

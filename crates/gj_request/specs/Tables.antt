@@ -1,5 +1,5 @@
 -- The tables of fields, and how an object is read by one. Own.
-use Rattle.std.specs.Prelude.{◌++◌, ◌&&◌, Bool, true, false, List, [], ◌∷◌, Option, Some, None, Result, Ok, Err}
+use Rattle.std.specs.Prelude.{ℕ, ◌++◌, ◌&&◌, Bool, true, false, List, [], ◌∷◌, map, if◌then◌else◌, Option, Some, None, Result, Ok, Err}
 use Rattle.std.specs.List.{list_any}
 use Rattle.std.specs.Str.{bytes_eq}
 use Rattle.serde_json.specs.Data.{Data, Members, no_members, member}
@@ -34,7 +34,7 @@ said row None = formed row.name row.default
 said row (Some value) = row.form.reading row.name value
 
 unfoldable pub field : (row : Row) → Data → Result (Content row.form.shape) Refusal
-field row object = said row (get (name_text row.name) object)
+field row value = said row (get (name_text row.name) value)
 
 -- what is built of what each field of a table says
 abbrev pub Builder : List Row → Type 0 → Type 0
@@ -43,31 +43,31 @@ Builder (row ∷ rows) A = Content row.form.shape → Builder rows A
 
 -- the fields of a table in order, and what is built of them
 abbrev pub filled : {A : Type 0} (rows : List Row) → Builder rows A → Data → Result A Refusal
-filled [] built object = Ok built
-filled (row ∷ rows) build object = do
-  content ← field row object
-  filled rows (build content) object
+filled [] built value = Ok built
+filled (row ∷ rows) build value = do
+  content ← field row value
+  filled rows (build content) value
 
--- the names of an object are among the names of a table
-abbrev pub are_known : List Row → Members → Bool
-are_known rows no_members = true
-are_known rows (member text value members) = list_any (λ row. bytes_eq text (name_text row.name)) rows && are_known rows members
+-- the text is that of one of these names
+abbrev pub is_known : List Name → List ℕ → Bool
+is_known known text = list_any (λ name. bytes_eq text (name_text name)) known
 
--- an object that has no other names than those of a table
-unfoldable pub object_of : Name → List Row → Data → Result Data Refusal
-object_of name rows value = do
+-- each name of an object is one of these
+abbrev pub are_known : List Name → Members → Bool
+are_known known no_members = true
+are_known known (member text value members) = is_known known text && are_known known members
+
+-- the value, where it is an object with no other names than these
+unfoldable pub object_of : Name → List Name → Data → Result Data Refusal
+object_of name known value = do
   members ← formed name (as_object value)
-  only_known (are_known rows members)
-  where
-    only_known : Bool → Result Data Refusal
-    only_known false = Err (Field names.Unknown)
-    only_known true = Ok value
+  if are_known known members then Ok value else Err (Field names.Unknown)
 
 -- what is built of an object by a table
 abbrev pub read_by : {A : Type 0} (rows : List Row) → Builder rows A → Name → Data → Result A Refusal
 read_by rows build name value = do
-  object ← object_of name rows value
-  filled rows build object
+  fields ← object_of name (map (λ row. row.name) rows) value
+  filled rows build fields
 
 -- an element of items
 abbrev pub item_rows : List Row

@@ -4,10 +4,17 @@
 //! it is. `read_request` takes memory; the names take none.
 #![tactic(auto)]
 
+mod fields;
+mod forms;
+mod items;
 mod name;
+mod path;
 mod refusal;
 mod request;
 
 pub use name::Name;
 pub use refusal::Refusal;
 pub use request::read_request;
+
+#[cfg(test)]
+mod tests;

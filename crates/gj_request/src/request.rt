@@ -1,14 +1,24 @@
 //! What a request asks for.
-ghost use Rattle.std.specs.Prelude.{◌≡◌, ◌≤◌, IfOk, IfErr, Ok, is_some, option_map};
-ghost use Rattle.gj_request.specs.Requests.{asked, has_id, IsAsked};
-ghost use Rattle.gj_request.specs.Results.{Refuses};
+ghost use Rattle.std.specs.Prelude.{◌≡◌, ◌≤◌, IfOk, IfErr, Ok, Some, is_some, option_map};
+ghost use Rattle.serde_json.specs.View.{view};
+ghost use Rattle.gj_request.specs.Requests.{tree_of, parsed, batch_of, walk_of, subgraph_of, similar_of, asked, has_id, IsAsked};
+ghost use Rattle.gj_request.specs.Results.{Refuses, Gives};
 
+use crate::fields::{check_names, id, ids, kinds, number, small, truth};
+use crate::items::items;
+use crate::name::Name;
+use crate::path::read_path_id;
 use crate::refusal::Refusal;
-use gj_base::{Ask, Route};
+use gj_base::{
+    Ask, HISTORY_END, MAX_ITERATIONS, MAX_PROOF, MAX_RESET, MAX_STEPS, MAX_TOP, Query, Route,
+    SimAsk, SubAsk, WalkAsk,
+};
+use serde_json::Value;
 use std::alloc::Global;
 
 /// What a request asks for: by its route, the last part of its path where the route has an identifier, and its body,
 /// which is ignored for the routes without one. Takes memory for the body's tree and for the lists of the ask.
+#[tactic(auto, unfolding(crate::specs::Requests::asked))]
 pub fn read_request(
     alloc: Global,
     route: Route,
@@ -22,5 +32,152 @@ pub fn read_request(
     // What every ask keeps, beside what its own type keeps.
     ensures in_range { IfOk result IsAsked }
 {
-    Err(Refusal::Memory)
+    match route {
+        Route::Interactions => read_batch(alloc, &parse(alloc, body)?),
+        Route::Walk => read_walk(alloc, &parse(alloc, body)?),
+        Route::Subgraph => read_subgraph(alloc, &parse(alloc, body)?),
+        Route::Similar => read_similar(&parse(alloc, body)?),
+        Route::User => Ok(Ask::Query(Query::User(read_path_id(id.unwrap())?))),
+        Route::Post => Ok(Ask::Query(Query::Post(read_path_id(id.unwrap())?))),
+        Route::Stats => Ok(Ask::Query(Query::Stats)),
+    }
+}
+
+/// The JSON value that a body is.
+#[tactic(auto, unfolding(crate::specs::Requests::tree_of))]
+fn parse(alloc: Global, body: &[u8]) -> Result<Value, Refusal>
+    ensures ok { IfOk result (λ tree. tree_of body.now ≡ Some (view tree)) }
+    ensures refused { IfErr result (Refuses (parsed (tree_of body.now))) }
+{
+    match Value::from_slice(alloc, body) {
+        Ok(tree) => Ok(tree),
+        Err(e) => {
+            if e.is_memory() {
+                Err(Refusal::Memory)
+            } else {
+                Err(Refusal::Json)
+            }
+        }
+    }
+}
+
+#[tactic(auto, unfolding(crate::specs::Requests::batch_of))]
+fn read_batch(alloc: Global, tree: &Value) -> Result<Ask, Refusal>
+    ensures exact { Gives (batch_of (view tree.now)) result }
+    ensures in_range { IfOk result IsAsked }
+{
+    check_names(Name::Body, tree, &[Name::Items])?;
+    let items = items(alloc, tree, Name::Items)?;
+    Ok(Ask::Items(items))
+}
+
+/// The results of a query that does not say how many.
+const DEFAULT_TOP: u32 = 10;
+
+/// The seed users in a social proof, where a query does not say how many.
+const DEFAULT_PROOF: u32 = 3;
+
+/// The names of a walk's fields.
+const WALK: [Name; 9] = [
+    Name::Seeds,
+    Name::Steps,
+    Name::Seed,
+    Name::Kinds,
+    Name::Reset,
+    Name::Top,
+    Name::Proof,
+    Name::Hide,
+    Name::Since,
+];
+
+#[tactic(auto, unfolding(crate::specs::Requests::walk_of))]
+fn read_walk(alloc: Global, tree: &Value) -> Result<Ask, Refusal>
+    ensures exact { Gives (walk_of (view tree.now)) result }
+    ensures in_range { IfOk result IsAsked }
+{
+    check_names(Name::Body, tree, &WALK)?;
+    let seeds = ids(alloc, tree, Name::Seeds)?;
+    let steps = small(tree, Name::Steps, 1, MAX_STEPS, None)?;
+    let seed = number(tree, Name::Seed, 0, u64::MAX, Some(0))?;
+    let mask = kinds(tree, Name::Kinds)?;
+    let reset = small(tree, Name::Reset, 0, MAX_RESET, Some(0))?;
+    let top = small(tree, Name::Top, 1, MAX_TOP, Some(DEFAULT_TOP))?;
+    let proof = small(tree, Name::Proof, 0, MAX_PROOF, Some(DEFAULT_PROOF))?;
+    let hide = truth(tree, Name::Hide, false)?;
+    let since = number(tree, Name::Since, 0, HISTORY_END, Some(0))?;
+    Ok(Ask::Query(Query::Walk(WalkAsk {
+        seeds,
+        steps,
+        seed,
+        mask,
+        reset,
+        top,
+        proof,
+        hide,
+        since,
+    })))
+}
+
+/// The names of the fields of subgraph SALSA.
+const SUBGRAPH: [Name; 6] = [
+    Name::Seeds,
+    Name::Iterations,
+    Name::Kinds,
+    Name::Top,
+    Name::Proof,
+    Name::Since,
+];
+
+#[tactic(auto, unfolding(crate::specs::Requests::subgraph_of))]
+fn read_subgraph(alloc: Global, tree: &Value) -> Result<Ask, Refusal>
+    ensures exact { Gives (subgraph_of (view tree.now)) result }
+    ensures in_range { IfOk result IsAsked }
+{
+    check_names(Name::Body, tree, &SUBGRAPH)?;
+    let seeds = ids(alloc, tree, Name::Seeds)?;
+    let iterations = small(tree, Name::Iterations, 1, MAX_ITERATIONS, None)?;
+    let mask = kinds(tree, Name::Kinds)?;
+    let top = small(tree, Name::Top, 1, MAX_TOP, Some(DEFAULT_TOP))?;
+    let proof = small(tree, Name::Proof, 0, MAX_PROOF, Some(DEFAULT_PROOF))?;
+    let since = number(tree, Name::Since, 0, HISTORY_END, Some(0))?;
+    Ok(Ask::Query(Query::Sub(SubAsk {
+        seeds,
+        iterations,
+        mask,
+        top,
+        proof,
+        since,
+    })))
+}
+
+/// The names of the fields of similarity.
+const SIMILAR: [Name; 6] = [
+    Name::Post,
+    Name::Steps,
+    Name::Seed,
+    Name::Kinds,
+    Name::Top,
+    Name::Since,
+];
+
+#[tactic(auto, unfolding(crate::specs::Requests::similar_of))]
+fn read_similar(tree: &Value) -> Result<Ask, Refusal>
+    ensures exact { Gives (similar_of (view tree.now)) result }
+    ensures in_range { IfOk result IsAsked }
+{
+    check_names(Name::Body, tree, &SIMILAR)?;
+    let post = id(tree, Name::Post)?;
+    let steps = small(tree, Name::Steps, 1, MAX_STEPS, None)?;
+    let seed = number(tree, Name::Seed, 0, u64::MAX, Some(0))?;
+    let mask = kinds(tree, Name::Kinds)?;
+    let top = small(tree, Name::Top, 1, MAX_TOP, Some(DEFAULT_TOP))?;
+    let since = number(tree, Name::Since, 0, HISTORY_END, Some(0))?;
+    Ok(Ask::Query(Query::Sim(SimAsk {
+        post,
+        steps,
+        seed,
+        mask,
+        top,
+        since,
+    })))
 }

@@ -1,0 +1,6 @@
+pub mod ArrayLemmas
+pub mod EachLemmas
+pub mod KindLemmas
+pub mod NamesLemmas
+pub mod SeedLemmas
+pub mod TreeLemmas

@@ -1,0 +1,144 @@
+//! The values of fields, by their forms.
+ghost use Rattle.std.specs.Prelude.{◌≡◌, ◌+◌, ◌≤◌, IsTrue, [], IfOk, IfErr, OnOk, Ok, Err, length};
+ghost use Rattle.serde_json.specs.View.{view, items_view};
+ghost use Rattle.gj_base.specs.Asks.{are_distinct, are_ids, AreSeeds};
+ghost use Rattle.gj_request.specs.Forms.{number_of, truth_of, kind_of, kinds_of, kinds_in, add_kind, array_of, ids_of, add_id, each};
+ghost use Rattle.gj_request.specs.Results.{Refuses, Gives};
+
+use crate::name::Name;
+use crate::refusal::Refusal;
+use gj_base::{IdList, Kind, MAX_ID, MAX_SEEDS, Mask};
+use serde_json::Value;
+use std::alloc::Global;
+
+/// A number from the least to the most.
+#[tactic(auto, unfolding(crate::specs::Forms::number_of))]
+pub fn read_number(name: Name, value: &Value, least: u64, most: u64) -> Result<u64, Refusal>
+    ensures exact { result ≡ number_of least most name (view value.now) }
+    ensures in_range { IfOk result (λ n. (least ≤ n) × (n ≤ most)) }
+{
+    let Some(n) = value.as_u64() else {
+        return Err(Refusal::Field(name));
+    };
+    if least <= n && n <= most {
+        Ok(n)
+    } else {
+        Err(Refusal::Range(name))
+    }
+}
+
+/// True or false.
+#[tactic(auto, unfolding(crate::specs::Forms::truth_of))]
+pub fn read_truth(name: Name, value: &Value) -> Result<bool, Refusal>
+    ensures { result ≡ truth_of name (view value.now) }
+{
+    match value.as_bool() {
+        None => Err(Refusal::Field(name)),
+        Some(truth) => Ok(truth),
+    }
+}
+
+/// A kind, by its name.
+#[tactic(auto, unfolding(crate::specs::Forms::kind_of))]
+pub fn read_kind(name: Name, value: &Value) -> Result<Kind, Refusal>
+    ensures { result ≡ kind_of name (view value.now) }
+{
+    let Some(text) = value.as_str() else {
+        return Err(Refusal::Field(name));
+    };
+    match Kind::from_name(text) {
+        None => Err(Refusal::Range(name)),
+        Some(kind) => Ok(kind),
+    }
+}
+
+/// Puts one identifier more at the end, which must not be among the earlier ones.
+#[tactic(auto, unfolding(crate::specs::Forms::add_id))]
+fn push_id(ids: &mut IdList, name: Name, value: &Value) -> Result<(), Refusal>
+    ensures ok { OnOk result (add_id name ids.old (view value.now) ≡ Ok ids.new) }
+    ensures refused { IfErr result (Refuses (add_id name ids.old (view value.now))) }
+    ensures len { OnOk result (length ids.new ≡ length ids.old + 1) }
+    ensures distinct { OnOk result (IsTrue (are_distinct ids.old) → IsTrue (are_distinct ids.new)) }
+    ensures ids { OnOk result (IsTrue (are_ids ids.old) → IsTrue (are_ids ids.new)) }
+{
+    let id = read_number(name, value, 0, MAX_ID)?;
+    if ids.as_slice().contains(&id) {
+        return Err(Refusal::Range(name));
+    }
+    ids.push(id)?;
+    Ok(())
+}
+
+/// The identifiers of a list.
+fn ids_in(alloc: Global, name: Name, list: &[Value]) -> Result<IdList, Refusal>
+    ensures exact { Gives (each (add_id name) [] (items_view list.now)) result }
+    ensures len { IfOk result (λ ids. length ids ≡ length list.now) }
+    ensures distinct { IfOk result (λ ids. IsTrue (are_distinct ids)) }
+    ensures ids { IfOk result (λ ids. IsTrue (are_ids ids)) }
+{
+    let mut ids = IdList::with_capacity(alloc, list.len())?;
+    for value in list {
+        push_id(&mut ids, name, value)?;
+    }
+    Ok(ids)
+}
+
+/// Identifiers, no two of which are equal.
+#[tactic(auto, unfolding(crate::specs::Forms::ids_of))]
+pub fn read_ids(alloc: Global, name: Name, value: &Value) -> Result<IdList, Refusal>
+    ensures exact { Gives (ids_of name (view value.now)) result }
+    ensures seeds { IfOk result AreSeeds }
+{
+    let list = read_array(name, value, MAX_SEEDS)?;
+    ids_in(alloc, name, list)
+}
+
+/// The elements of an array that has one at least and `most` at most.
+#[tactic(auto, using(crate::proofs::ArrayLemmas::items_count))]
+pub fn read_array(name: Name, value: &Value, most: usize) -> Result<&[Value], Refusal>
+    ensures ok { IfOk result (λ list. array_of most name (view value.now) ≡ Ok (items_view list.now)) }
+    ensures refused { IfErr result (λ why. array_of most name (view value.now) ≡ Err why) }
+    ensures in_range { IfOk result (λ list. (1 ≤ length list.now) × (length list.now ≤ most)) }
+{
+    let Some(list) = value.as_array() else {
+        return Err(Refusal::Field(name));
+    };
+    let list = list.as_slice();
+    if 1 <= list.len() && list.len() <= most {
+        Ok(list)
+    } else {
+        Err(Refusal::Range(name))
+    }
+}
+
+/// The kinds of an array with at least one element.
+#[tactic(auto, unfolding(crate::specs::Forms::kinds_of))]
+pub fn read_kinds(name: Name, value: &Value) -> Result<Mask, Refusal>
+    ensures { result ≡ kinds_of name (view value.now) }
+{
+    let Some(list) = value.as_array() else {
+        return Err(Refusal::Field(name));
+    };
+    kinds_in(name, list.as_slice())
+}
+
+fn kinds_in(name: Name, list: &[Value]) -> Result<Mask, Refusal>
+    ensures { result ≡ kinds_in name (items_view list.now) }
+{
+    let Some((first, others)) = list.split_first() else {
+        return Err(Refusal::Range(name));
+    };
+    let mut mask = Mask::one(read_kind(name, first)?);
+    for value in others {
+        mask = with_kind(mask, name, value)?;
+    }
+    Ok(mask)
+}
+
+/// The set and one kind more.
+#[tactic(auto, unfolding(crate::specs::Forms::add_kind))]
+fn with_kind(mask: Mask, name: Name, value: &Value) -> Result<Mask, Refusal>
+    ensures { result ≡ add_kind name mask (view value.now) }
+{
+    Ok(mask.with(read_kind(name, value)?))
+}

@@ -1,0 +1,503 @@
+use crate::{Name, Refusal, read_request};
+use gj_base::{Ask, ItemList, Kind, MAX_ID, Mask, Query, Route, SimAsk, SubAsk, WalkAsk};
+use std::alloc::Global;
+use std::process::Abort;
+use std::test::Fail;
+
+fn walk_of(alloc: Global, body: &str) -> Option<WalkAsk> {
+    match read_request(alloc, Route::Walk, None, body.as_bytes()) {
+        Ok(Ask::Query(Query::Walk(ask))) => Some(ask),
+        _ => None,
+    }
+}
+
+fn subgraph_of(alloc: Global, body: &str) -> Option<SubAsk> {
+    match read_request(alloc, Route::Subgraph, None, body.as_bytes()) {
+        Ok(Ask::Query(Query::Sub(ask))) => Some(ask),
+        _ => None,
+    }
+}
+
+fn similar_of(alloc: Global, body: &str) -> Option<SimAsk> {
+    match read_request(alloc, Route::Similar, None, body.as_bytes()) {
+        Ok(Ask::Query(Query::Sim(ask))) => Some(ask),
+        _ => None,
+    }
+}
+
+fn batch_of(alloc: Global, body: &str) -> Option<ItemList> {
+    match read_request(alloc, Route::Interactions, None, body.as_bytes()) {
+        Ok(Ask::Items(items)) => Some(items),
+        _ => None,
+    }
+}
+
+fn user_of(alloc: Global, id: &str) -> Option<u64> {
+    match read_request(alloc, Route::User, Some(id), b"{") {
+        Ok(Ask::Query(Query::User(user))) => Some(user),
+        _ => None,
+    }
+}
+
+fn post_of(alloc: Global, id: &str) -> Option<u64> {
+    match read_request(alloc, Route::Post, Some(id), b"") {
+        Ok(Ask::Query(Query::Post(post))) => Some(post),
+        _ => None,
+    }
+}
+
+/// Which of the five kinds a mask has.
+fn kinds_of(mask: Mask) -> [bool; 5] {
+    [
+        mask.has(Kind::Click),
+        mask.has(Kind::Favorite),
+        mask.has(Kind::Retweet),
+        mask.has(Kind::Reply),
+        mask.has(Kind::Tweet),
+    ]
+}
+
+const GOOD_WALK: &str = "{\"seeds\":[7,3],\"steps\":6}";
+
+fn walk_refusal(alloc: Global, body: &[u8]) -> Option<Refusal> {
+    read_request(alloc, Route::Walk, None, body).err()
+}
+
+fn batch_refusal(alloc: Global, body: &[u8]) -> Option<Refusal> {
+    read_request(alloc, Route::Interactions, None, body).err()
+}
+
+fn subgraph_refusal(alloc: Global, body: &[u8]) -> Option<Refusal> {
+    read_request(alloc, Route::Subgraph, None, body).err()
+}
+
+fn similar_refusal(alloc: Global, body: &[u8]) -> Option<Refusal> {
+    read_request(alloc, Route::Similar, None, body).err()
+}
+
+fn user_refusal(alloc: Global, id: &str) -> Option<Refusal> {
+    read_request(alloc, Route::User, Some(id), b"").err()
+}
+
+#[test]
+fn a_walk_is_refused_by_the_first_fault(rt: HostRuntime) {
+    for (body, refusal) in [
+        ("", Refusal::Json),
+        ("{", Refusal::Json),
+        ("{\"seeds\":[1],\"steps\":6}x", Refusal::Json),
+        ("{\"seeds\":[1],\"steps\":01}", Refusal::Json),
+        ("[]", Refusal::Field(Name::Body)),
+        ("null", Refusal::Field(Name::Body)),
+        ("{}", Refusal::Field(Name::Seeds)),
+        ("{\"x\":0}", Refusal::Field(Name::Unknown)),
+        (
+            "{\"seeds\":[1],\"steps\":6,\"x\":0}",
+            Refusal::Field(Name::Unknown),
+        ),
+        ("{\"seeds\":[],\"Steps\":6}", Refusal::Field(Name::Unknown)),
+        (
+            "{\"seeds\":[1],\"steps\":6,\"items\":[]}",
+            Refusal::Field(Name::Unknown),
+        ),
+        ("{\"steps\":6}", Refusal::Field(Name::Seeds)),
+        ("{\"seeds\":null,\"steps\":6}", Refusal::Field(Name::Seeds)),
+        ("{\"seeds\":1,\"steps\":6}", Refusal::Field(Name::Seeds)),
+        (
+            "{\"seeds\":[null],\"steps\":6}",
+            Refusal::Field(Name::Seeds),
+        ),
+        ("{\"seeds\":[-1],\"steps\":6}", Refusal::Field(Name::Seeds)),
+        ("{\"seeds\":[],\"steps\":6}", Refusal::Range(Name::Seeds)),
+        ("{\"seeds\":[1,1],\"steps\":6}", Refusal::Range(Name::Seeds)),
+        (
+            "{\"seeds\":[1,2,3,1],\"steps\":6}",
+            Refusal::Range(Name::Seeds),
+        ),
+        (
+            "{\"seeds\":[1,1,null],\"steps\":6}",
+            Refusal::Range(Name::Seeds),
+        ),
+        (
+            "{\"seeds\":[1,null,1],\"steps\":6}",
+            Refusal::Field(Name::Seeds),
+        ),
+        (
+            "{\"seeds\":[9223372036854775808],\"steps\":6}",
+            Refusal::Range(Name::Seeds),
+        ),
+        ("{\"seeds\":[],\"steps\":null}", Refusal::Range(Name::Seeds)),
+        ("{\"seeds\":[1]}", Refusal::Field(Name::Steps)),
+        (
+            "{\"seeds\":[1],\"steps\":\"6\"}",
+            Refusal::Field(Name::Steps),
+        ),
+        ("{\"seeds\":[1],\"steps\":6.0}", Refusal::Field(Name::Steps)),
+        ("{\"seeds\":[1],\"steps\":1e2}", Refusal::Field(Name::Steps)),
+        ("{\"seeds\":[1],\"steps\":-1}", Refusal::Field(Name::Steps)),
+        (
+            "{\"seeds\":[1],\"steps\":null}",
+            Refusal::Field(Name::Steps),
+        ),
+        (
+            "{\"seeds\":[1],\"steps\":18446744073709551616}",
+            Refusal::Field(Name::Steps),
+        ),
+        (
+            "{\"seeds\":[1],\"steps\":18446744073709551615}",
+            Refusal::Range(Name::Steps),
+        ),
+        ("{\"seeds\":[1],\"steps\":0}", Refusal::Range(Name::Steps)),
+        (
+            "{\"seeds\":[1],\"steps\":100001}",
+            Refusal::Range(Name::Steps),
+        ),
+        (
+            "{\"seeds\":[1],\"steps\":6,\"seed\":18446744073709551616}",
+            Refusal::Field(Name::Seed),
+        ),
+        (
+            "{\"seeds\":[1],\"steps\":6,\"seed\":null}",
+            Refusal::Field(Name::Seed),
+        ),
+        (
+            "{\"seeds\":[1],\"steps\":6,\"kinds\":[]}",
+            Refusal::Range(Name::Kinds),
+        ),
+        (
+            "{\"seeds\":[1],\"steps\":6,\"kinds\":[\"like\"]}",
+            Refusal::Range(Name::Kinds),
+        ),
+        (
+            "{\"seeds\":[1],\"steps\":6,\"kinds\":[\"click\",\"clic\"]}",
+            Refusal::Range(Name::Kinds),
+        ),
+        (
+            "{\"seeds\":[1],\"steps\":6,\"kinds\":[\"clicks\"]}",
+            Refusal::Range(Name::Kinds),
+        ),
+        (
+            "{\"seeds\":[1],\"steps\":6,\"kinds\":[1]}",
+            Refusal::Field(Name::Kinds),
+        ),
+        (
+            "{\"seeds\":[1],\"steps\":6,\"kinds\":\"click\"}",
+            Refusal::Field(Name::Kinds),
+        ),
+        (
+            "{\"seeds\":[1],\"steps\":6,\"reset\":10001}",
+            Refusal::Range(Name::Reset),
+        ),
+        (
+            "{\"seeds\":[1],\"steps\":6,\"top\":0}",
+            Refusal::Range(Name::Top),
+        ),
+        (
+            "{\"seeds\":[1],\"steps\":6,\"top\":101}",
+            Refusal::Range(Name::Top),
+        ),
+        (
+            "{\"seeds\":[1],\"steps\":6,\"proof\":11}",
+            Refusal::Range(Name::Proof),
+        ),
+        (
+            "{\"seeds\":[1],\"steps\":6,\"hide\":1}",
+            Refusal::Field(Name::Hide),
+        ),
+        (
+            "{\"seeds\":[1],\"steps\":6,\"since\":281474976710657}",
+            Refusal::Range(Name::Since),
+        ),
+        (
+            "{\"seeds\":[1],\"steps\":6,\"since\":\"0\",\"top\":0}",
+            Refusal::Range(Name::Top),
+        ),
+    ] {
+        assert_eq!(rt;
+            walk_refusal(rt.alloc(), body.as_bytes()),
+            Some(refusal),
+            "{body}"
+        );
+    }
+}
+
+#[test]
+fn a_body_that_is_no_text_is_refused(rt: HostRuntime) -> Result<(), Fail> {
+    let deep = vec![in rt.alloc(); b'['; 200]?;
+    assert_eq!(rt;
+        walk_refusal(rt.alloc(), deep.as_slice()),
+        Some(Refusal::Json)
+    );
+    assert_eq!(rt; walk_refusal(rt.alloc(), b"\xff"), Some(Refusal::Json));
+    assert_eq!(rt;
+        walk_refusal(rt.alloc(), b"{\"\xff\":0}"),
+        Some(Refusal::Json)
+    );
+    Ok(())
+}
+
+#[test]
+fn a_walk_that_is_cut_short_has_no_reading(rt: HostRuntime) {
+    let body = GOOD_WALK.as_bytes();
+    for len in 0..body.len() {
+        assert_eq!(rt;
+            walk_refusal(rt.alloc(), &body[..len]),
+            Some(Refusal::Json),
+            "at {len}"
+        );
+    }
+    assert_eq!(rt; walk_refusal(rt.alloc(), body), None);
+}
+
+#[test]
+fn a_walk_has_its_defaults(rt: HostRuntime) -> Result<(), Fail> {
+    let ask = walk_of(rt.alloc(), GOOD_WALK).ok_or("no walk")?;
+    assert_eq!(rt; ask.seeds.as_slice(), [7, 3].as_slice());
+    assert_eq!(rt; (ask.steps, ask.seed, ask.reset), (6, 0, 0));
+    assert_eq!(rt;
+        (ask.top, ask.proof, ask.hide, ask.since),
+        (10, 3, false, 0)
+    );
+    assert_eq!(rt; kinds_of(ask.mask), [true, true, true, true, true]);
+    Ok(())
+}
+
+#[test]
+fn a_walk_has_what_its_body_says(rt: HostRuntime) -> Result<(), Fail> {
+    let body =
+        "{\"since\":281474976710656,\"hide\":true,\"proof\":10,\"top\":100,\"reset\":10000,\"kinds\":[\"tweet\",\"click\",\"tweet\"],\"seed\":18446744073709551615,\"steps\":100000,\"seeds\":[9223372036854775807,0]}";
+    let ask = walk_of(rt.alloc(), body).ok_or("no walk")?;
+    assert_eq!(rt; ask.seeds.as_slice(), [MAX_ID, 0].as_slice());
+    assert_eq!(rt;
+        (ask.steps, ask.seed, ask.reset),
+        (100_000, u64::MAX, 10_000)
+    );
+    assert_eq!(rt;
+        (ask.top, ask.proof, ask.hide, ask.since),
+        (100, 10, true, 1 << 48)
+    );
+    assert_eq!(rt; kinds_of(ask.mask), [true, false, false, false, true]);
+    Ok(())
+}
+
+fn seeds_refusal(rt: &(impl Abort + AllocGlobal), count: u64) -> Result<Option<Refusal>, Fail> {
+    let mut body = String::from_str(rt.alloc(), "{\"steps\":1,\"seeds\":[0")?;
+    for id in 1..count {
+        write!(body, ",{id}")?;
+    }
+    body.push_str("]}")?;
+    Ok(walk_refusal(rt.alloc(), body.as_str().as_bytes()))
+}
+
+#[test]
+fn a_query_has_at_most_1000_seeds(rt: HostRuntime) -> Result<(), Fail> {
+    assert_eq!(rt; seeds_refusal(&rt, 1000)?, None);
+    assert_eq!(rt;
+        seeds_refusal(&rt, 1001)?,
+        Some(Refusal::Range(Name::Seeds))
+    );
+    Ok(())
+}
+
+#[test]
+fn a_batch_is_refused_by_the_first_fault(rt: HostRuntime) {
+    for (items, refusal) in [
+        ("null", Refusal::Field(Name::Items)),
+        ("{}", Refusal::Field(Name::Items)),
+        ("[]", Refusal::Range(Name::Items)),
+        ("[1]", Refusal::Field(Name::Items)),
+        ("[{}]", Refusal::Field(Name::User)),
+        ("[{\"x\":0}]", Refusal::Field(Name::Unknown)),
+        ("[{\"user\":1}]", Refusal::Field(Name::Post)),
+        ("[{\"user\":1,\"post\":1}]", Refusal::Field(Name::Kind)),
+        (
+            "[{\"user\":1,\"post\":1,\"kind\":\"click\",\"seed\":0}]",
+            Refusal::Field(Name::Unknown),
+        ),
+        (
+            "[{\"user\":null,\"post\":1,\"kind\":\"click\"}]",
+            Refusal::Field(Name::User),
+        ),
+        (
+            "[{\"user\":9223372036854775808,\"post\":1.5,\"kind\":0}]",
+            Refusal::Range(Name::User),
+        ),
+        (
+            "[{\"user\":1,\"post\":1.5,\"kind\":0}]",
+            Refusal::Field(Name::Post),
+        ),
+        (
+            "[{\"user\":1,\"post\":9223372036854775808,\"kind\":0}]",
+            Refusal::Range(Name::Post),
+        ),
+        (
+            "[{\"user\":1,\"post\":1,\"kind\":0}]",
+            Refusal::Field(Name::Kind),
+        ),
+        (
+            "[{\"user\":1,\"post\":1,\"kind\":\"Click\"}]",
+            Refusal::Range(Name::Kind),
+        ),
+        (
+            "[{\"user\":1,\"post\":1,\"kind\":\"like\"},0]",
+            Refusal::Range(Name::Kind),
+        ),
+        (
+            "[0,{\"user\":1,\"post\":1,\"kind\":\"like\"}]",
+            Refusal::Field(Name::Items),
+        ),
+    ] {
+        let body = format!(in rt.alloc(); "{{\"items\":{items}}}").expect(&rt, "memory");
+        assert_eq!(rt;
+            batch_refusal(rt.alloc(), body.as_str().as_bytes()),
+            Some(refusal),
+            "{items}"
+        );
+    }
+    assert_eq!(rt;
+        batch_refusal(rt.alloc(), b"{}"),
+        Some(Refusal::Field(Name::Items))
+    );
+}
+
+#[test]
+fn a_batch_has_its_interactions_in_order(rt: HostRuntime) -> Result<(), Fail> {
+    let body =
+        "{\"items\":[{\"user\":9223372036854775807,\"post\":0,\"kind\":\"reply\"},{\"kind\":\"favorite\",\"post\":20,\"user\":1}]}";
+    let items = batch_of(rt.alloc(), body).ok_or("no batch")?;
+    let items = items.as_slice();
+    assert_eq!(rt; items.len(), 2);
+    let first = items[0];
+    assert_eq!(rt;
+        (first.user, first.post, first.kind),
+        (MAX_ID, 0, Kind::Reply)
+    );
+    let last = items[1];
+    assert_eq!(rt; (last.user, last.post, last.kind), (1, 20, Kind::Favorite));
+    Ok(())
+}
+
+fn items_refusal(rt: &(impl Abort + AllocGlobal), count: u64) -> Result<Option<Refusal>, Fail> {
+    let mut body = String::from_str(
+        rt.alloc(),
+        "{\"items\":[{\"user\":0,\"post\":0,\"kind\":\"click\"}",
+    )?;
+    for id in 1..count {
+        write!(body, ",{{\"user\":{id},\"post\":{id},\"kind\":\"click\"}}")?;
+    }
+    body.push_str("]}")?;
+    Ok(batch_refusal(rt.alloc(), body.as_str().as_bytes()))
+}
+
+#[test]
+fn a_batch_has_at_most_4096_items(rt: HostRuntime) -> Result<(), Fail> {
+    assert_eq!(rt; items_refusal(&rt, 4096)?, None);
+    assert_eq!(rt;
+        items_refusal(&rt, 4097)?,
+        Some(Refusal::Range(Name::Items))
+    );
+    Ok(())
+}
+
+#[test]
+fn a_subgraph_query_has_its_own_fields(rt: HostRuntime) -> Result<(), Fail> {
+    for (body, refusal) in [
+        (
+            "{\"seeds\":[1],\"iterations\":1,\"steps\":1}",
+            Refusal::Field(Name::Unknown),
+        ),
+        (
+            "{\"seeds\":[1],\"iterations\":1,\"hide\":true}",
+            Refusal::Field(Name::Unknown),
+        ),
+        ("{\"seeds\":[1]}", Refusal::Field(Name::Iterations)),
+        (
+            "{\"seeds\":[1],\"iterations\":0}",
+            Refusal::Range(Name::Iterations),
+        ),
+        (
+            "{\"seeds\":[1],\"iterations\":21}",
+            Refusal::Range(Name::Iterations),
+        ),
+    ] {
+        assert_eq!(rt;
+            subgraph_refusal(rt.alloc(), body.as_bytes()),
+            Some(refusal),
+            "{body}"
+        );
+    }
+    let ask = subgraph_of(rt.alloc(), "{\"seeds\":[2,1],\"iterations\":20}").ok_or(
+        "no subgraph query",
+    )?;
+    assert_eq!(rt; ask.seeds.as_slice(), [2, 1].as_slice());
+    assert_eq!(rt;
+        (ask.iterations, ask.top, ask.proof, ask.since),
+        (20, 10, 3, 0)
+    );
+    Ok(())
+}
+
+#[test]
+fn a_similar_query_has_its_own_fields(rt: HostRuntime) -> Result<(), Fail> {
+    for (body, refusal) in [
+        (
+            "{\"post\":1,\"steps\":1,\"proof\":1}",
+            Refusal::Field(Name::Unknown),
+        ),
+        ("{\"steps\":1}", Refusal::Field(Name::Post)),
+        ("{\"post\":\"1\",\"steps\":0}", Refusal::Field(Name::Post)),
+        (
+            "{\"post\":9223372036854775808,\"steps\":0}",
+            Refusal::Range(Name::Post),
+        ),
+        ("{\"post\":1,\"steps\":0}", Refusal::Range(Name::Steps)),
+    ] {
+        assert_eq!(rt;
+            similar_refusal(rt.alloc(), body.as_bytes()),
+            Some(refusal),
+            "{body}"
+        );
+    }
+    let ask = similar_of(rt.alloc(), "{\"post\":10,\"steps\":1000}").ok_or("no similar query")?;
+    assert_eq!(rt;
+        (ask.post, ask.steps, ask.seed, ask.top, ask.since),
+        (10, 1000, 0, 10, 0)
+    );
+    Ok(())
+}
+
+#[test]
+fn a_path_ends_in_the_digits_of_an_identifier(rt: HostRuntime) {
+    for (id, refusal) in [
+        ("", Refusal::Field(Name::Id)),
+        ("abc", Refusal::Field(Name::Id)),
+        ("+1", Refusal::Field(Name::Id)),
+        ("-1", Refusal::Field(Name::Id)),
+        ("1.0", Refusal::Field(Name::Id)),
+        ("%31", Refusal::Field(Name::Id)),
+        (
+            "99999999999999999999999999999999999999999x",
+            Refusal::Field(Name::Id),
+        ),
+        ("9223372036854775808", Refusal::Range(Name::Id)),
+        ("18446744073709551616", Refusal::Range(Name::Id)),
+        ("184467440737095516160", Refusal::Range(Name::Id)),
+        (
+            "99999999999999999999999999999999999999999",
+            Refusal::Range(Name::Id),
+        ),
+    ] {
+        assert_eq!(rt; user_refusal(rt.alloc(), id), Some(refusal), "{id}");
+    }
+    assert_eq!(rt;
+        user_of(rt.alloc(), "0000000000000000000000000000042"),
+        Some(42)
+    );
+    assert_eq!(rt; user_of(rt.alloc(), "0"), Some(0));
+    assert_eq!(rt; post_of(rt.alloc(), "9223372036854775807"), Some(MAX_ID));
+}
+
+#[test]
+fn the_counts_are_asked_for_by_the_route_alone(rt: HostRuntime) {
+    let ask = read_request(rt.alloc(), Route::Stats, None, b"\xff");
+    assert!(rt; matches!(ask, Ok(Ask::Query(Query::Stats))));
+}
