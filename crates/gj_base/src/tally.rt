@@ -1,5 +1,6 @@
 //! Numbers of posts.
-ghost use Rattle.std.specs.Prelude.{◌≡◌, ◌^◌, ◌<◌, [], All, IfOk, OnOk, OnErr};
+ghost use Rattle.std.specs.Prelude.{◌≡◌, ◌≢◌, ℕ, ◌^◌, ◌<◌, ◌≤◌, [], length, slice_index, All, IfOk, OnOk, OnErr, IsPermutation, IsSorted};
+ghost use Rattle.std.specs.Ordering.{nat_cmp};
 ghost use Rattle.gj_base.specs.Tally.{number_at, sum_of, with_number, tally};
 
 use crate::memory::Memory;
@@ -77,10 +78,42 @@ impl Tally {
         &self.map
     }
 
-    /// How often each post stands in the list. It takes memory for each distinct post.
+    /// How often each post stands in the list. It sorts the list, and takes memory for each distinct post.
     pub fn of_posts(alloc: Global, posts: Vec<u64>) -> Result<Tally, Memory>
         ensures { IfOk result (λ t. t ≡ tally posts.items) }
     {
-        Err(Memory)
+        let sorted = sorted(posts);
+        let mut counted = Tally::new(alloc);
+        let mut start = 0;
+        while start < sorted.len() {
+            let end = run_end(&sorted, start);
+            counted.put(sorted[start], (end - start) as u64)?;
+            start = end;
+        }
+        Ok(counted)
     }
+}
+
+/// The same posts in ascending order, in the same memory.
+fn sorted(mut posts: Vec<u64>) -> Vec<u64>
+    ensures permutation { IsPermutation posts.items result.items }
+    ensures sorted { IsSorted nat_cmp result.items }
+{
+    posts.sort_unstable();
+    posts
+}
+
+/// Where the run of posts that are the one at `start` ends.
+fn run_end(posts: &[u64], start: usize) -> usize
+    requires { start < length posts.now }
+    ensures later { start < result }
+    ensures in_range { result ≤ length posts.now }
+    ensures same { (k : ℕ) → start ≤ k → k < result → slice_index posts.now k ≡ slice_index posts.now start }
+    ensures ends { result < length posts.now → slice_index posts.now result ≢ slice_index posts.now start }
+{
+    let mut end = start + 1;
+    while end < posts.len() && posts[end] == posts[start] {
+        end += 1;
+    }
+    end
 }

@@ -5,6 +5,8 @@
 
 mod state;
 mod steps;
+#[cfg(test)]
+mod tests;
 
 pub use state::State;
 pub use steps::{Visits, walk};
