@@ -1,2 +1,4 @@
-pub mod HeadLemmas
 pub mod FixedLemmas
+pub mod ResponseLemmas
+pub mod RowLemmas
+pub mod TableLemmas

@@ -5,9 +5,13 @@
 #![tactic(auto)]
 
 mod fixed;
+mod found;
 mod message;
 mod responses;
+mod routes;
 
 pub use fixed::fixed_response;
+pub use found::{Found, RouteError};
 pub use message::Method;
 pub use responses::response;
+pub use routes::Routes;

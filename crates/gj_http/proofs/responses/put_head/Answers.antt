@@ -1,7 +1,7 @@
 use Rattle.std.proofs.Common.{◌++◌, codes}
 use Rattle.std.specs.Fmt.{decimal}
 use Rattle.gj_http.specs.Response.{allow_line, connection_text, head_of, status_text}
-use Rattle.gj_http.proofs.HeadLemmas.{ended, regrouped}
+use Rattle.gj_http.proofs.ResponseLemmas.{ended, regrouped}
 use Rattle.gj_http.proofs.responses.put_head.Goals as goal
 
 pub returns : goal.returns
