@@ -1,0 +1,4 @@
+pub mod FixedLemmas
+pub mod ResponseLemmas
+pub mod RowLemmas
+pub mod TableLemmas

@@ -1,0 +1,4 @@
+pub mod Arrays
+pub mod Bodies
+pub mod FixedTexts
+pub mod Statuses
