@@ -1,0 +1,4 @@
+pub mod FrontLemmas
+pub mod HeadLemmas
+pub mod FoundLemmas
+pub mod BoundLemmas

@@ -1,0 +1,7 @@
+pub mod Request
+pub mod Heads
+pub mod Cut
+pub mod Found
+pub mod Held
+pub mod Lent
+pub mod Taken
