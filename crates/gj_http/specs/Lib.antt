@@ -5,3 +5,4 @@ pub mod Found
 pub mod Held
 pub mod Lent
 pub mod Taken
+pub mod Calls

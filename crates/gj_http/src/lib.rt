@@ -8,8 +8,10 @@ mod calls;
 mod framer;
 mod front;
 mod head;
+mod laws;
 mod message;
 mod options;
 
 pub use framer::Framer;
+pub use laws::{beginnings, cut_goes_on, front_stays, one_cut, one_front, taken_as_cut};
 pub use message::{Message, Method, Refused, Step};
