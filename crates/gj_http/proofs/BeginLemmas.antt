@@ -68,7 +68,7 @@ empty_line-append_end [] more n is = absurd (cc)
 empty_line-append_end (a ∷ []) more n is = absurd (no_end_in_one a n false is)
 empty_line-append_end (a ∷ b ∷ bytes) more n is = refl
 
-close_same : (b : ℕ) (bytes more : List ℕ) → empty_line (bytes ++ more) ≡ empty_line bytes
+pub close_same : (b : ℕ) (bytes more : List ℕ) → empty_line (bytes ++ more) ≡ empty_line bytes
     → close_of_head (b ∷ (bytes ++ more)) ≡ close_of_head (b ∷ bytes)
 close_same b bytes more same = ap (λ (k : ℕ). if eqb b 10 && not (eqb k 0) then 1 + k else 0) same
 
@@ -107,7 +107,7 @@ head_end-append (b ∷ bytes) more n is =
 
 -- ---- the head
 
-window-append : (bytes more : List ℕ) → (c : List ℕ) × (window (bytes ++ more) ≡ window bytes ++ c)
+pub window-append : (bytes more : List ℕ) → (c : List ℕ) × (window (bytes ++ more) ≡ window bytes ++ c)
 window-append bytes more =
     elim (cases_lt 8192 (length bytes)) [
       | inl past ↦ ([], take-append-le 8192 bytes more (omega (arith, past)) ∙ sym (append-nil (window bytes)))

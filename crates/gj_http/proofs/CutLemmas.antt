@@ -1,11 +1,12 @@
 -- Cutting: one way only, and a beginning is cut into a beginning.
 use Rattle.std.proofs.Common.{◌≡◌, ℕ, ◌+◌, ◌<◌, ◌≤◌, List, [], ◌∷◌, ◌++◌, length, take, drop, Option, Some, None, Result, Ok, Err, refl, sym, ap, subst, ◌∙◌, arith, inl, inr, append_assoc}
 use Rattle.std.proofs.lemmas.List.{append-nil}
+use Rattle.std.specs.List.{concat}
 use Rattle.httparse.specs.Grammar.{RequestHead}
 use Rattle.gj_http.specs.Request.{Request}
 use Rattle.gj_http.specs.Heads.{IsHead, body_length, request_of}
 use Rattle.gj_http.specs.Cut.{head_length, head_bytes, after_head, BeginsWith, IsMessage, IsRefused, NeedsMore, Cuts}
-use Rattle.gj_http.specs.Calls.{Call, Fed, Took, Wanted, Turned, fed, taken, Runs}
+use Rattle.gj_http.specs.Calls.{Call, Fed, Took, Wanted, Turned, fed, taken, Runs, Feeds}
 use Rattle.gj_http.specs.declared.message.Refused.{Refused}
 use Rattle.gj_http.proofs.BeginLemmas.{BeginsWith-unique, IsHead-unique, IsMessage-append, IsRefused-append, some_same}
 
@@ -141,3 +142,15 @@ taken_as_cut (Took m ∷ calls) held now later why rest runs cut =
     (runs.0 ++ fed calls, (IsMessage-append held (fed calls) m runs.0 runs.1.0, taken_as_cut calls runs.0 now later why rest runs.1.1 cut))
 taken_as_cut (Wanted ∷ calls) held now later why rest runs cut = taken_as_cut calls held now later why rest runs.1 cut
 taken_as_cut (Turned _ ∷ calls) held now later why rest runs cut = taken_as_cut calls held now later why rest runs.1 cut
+
+pub fed_as_cut : (pieces : List (List ℕ)) (held : List ℕ) (messages : List Request) (why : Option Refused) (rest : List ℕ)
+    → Feeds held pieces messages why rest → Cuts (held ++ concat pieces) messages why rest
+fed_as_cut [] held messages why rest feeds = subst (λ (b : List ℕ). Cuts b messages why rest) (sym (append-nil held)) feeds
+fed_as_cut (piece ∷ pieces) held messages why rest feeds =
+    let first = feeds.0 in
+    let left = feeds.2 in
+    let later = feeds.3 in
+    let tail = fed_as_cut pieces (left ++ piece) later why rest feeds.5 in
+    let joined = subst (λ (b : List ℕ). Cuts b later why rest) (append_assoc left piece (concat pieces)) tail in
+    subst (λ (m : List Request). Cuts (held ++ (piece ++ concat pieces)) m why rest) (sym feeds.6)
+    (cut_goes_on first later held (piece ++ concat pieces) feeds.1 why left rest feeds.4 joined)

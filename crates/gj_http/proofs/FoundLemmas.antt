@@ -19,7 +19,7 @@ head_bytes_is bytes start size is =
     let n : start + size - start ≡ size = omega arith in
     ap (λ (k : ℕ). take k (drop start bytes)) n ∙ ap (λ (k : ℕ). take size (drop k bytes)) is
 
-begins_with : (bytes : List ℕ) (start size : ℕ) (h : RequestHead) → start ≡ empty_lines (window bytes) → head_length bytes ≡ Some size
+pub begins_with : (bytes : List ℕ) (start size : ℕ) (h : RequestHead) → start ≡ empty_lines (window bytes) → head_length bytes ≡ Some size
     → IsHead (slice_range bytes start (start + size)) h → BeginsWith bytes h (drop (start + size) bytes)
 unfolding after_head
 begins_with bytes start size h is ends head = record {

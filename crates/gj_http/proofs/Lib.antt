@@ -4,3 +4,4 @@ pub mod FoundLemmas
 pub mod BoundLemmas
 pub mod BeginLemmas
 pub mod CutLemmas
+pub mod HintLemmas

@@ -1,7 +1,7 @@
 -- What calls of a framer do to the bytes that it holds.
-use Rattle.std.specs.Prelude.{◌≡◌, ℕ, List, [], ◌∷◌, ◌++◌}
+use Rattle.std.specs.Prelude.{◌≡◌, ℕ, List, [], ◌∷◌, ◌++◌, Option}
 use Rattle.gj_http.specs.Request.{Request}
-use Rattle.gj_http.specs.Cut.{IsMessage, IsRefused, NeedsMore}
+use Rattle.gj_http.specs.Cut.{IsMessage, IsRefused, NeedsMore, Cuts}
 use Rattle.gj_http.specs.declared.message.Refused.{Refused}
 
 -- a piece is fed, or `take_next` answers a message, that it needs more, or a refusal
@@ -34,3 +34,10 @@ Runs held (Fed piece ∷ calls) now = Runs (held ++ piece) calls now
 Runs held (Took request ∷ calls) now = (rest : List ℕ) × (IsMessage held request rest × Runs rest calls now)
 Runs held (Wanted ∷ calls) now = NeedsMore held × Runs held calls now
 Runs held (Turned why ∷ calls) now = IsRefused held why × Runs held calls now
+
+-- all messages of the held bytes are taken, then a piece is fed, and so on to the last piece
+abbrev pub Feeds : List ℕ → List (List ℕ) → List Request → Option Refused → List ℕ → Type 0
+Feeds held [] messages refusal rest = Cuts held messages refusal rest
+Feeds held (piece ∷ pieces) messages refusal rest =
+    (first : List Request) × (seen : Option Refused) × (left : List ℕ) × (later : List Request)
+    × Cuts held first seen left × Feeds (left ++ piece) pieces later refusal rest × (messages ≡ first ++ later)

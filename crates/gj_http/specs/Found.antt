@@ -6,6 +6,7 @@ use Rattle.httparse.specs.Spans.{IsWithin, span_bytes}
 use Rattle.gj_http.specs.Heads.{IsHead, body_length, closes, lines_of, method_of, path_of}
 use Rattle.gj_http.specs.Request.{Request}
 use Rattle.gj_http.specs.Cut.{IsMessage, IsRefused, NeedsMore}
+use Rattle.gj_http.specs.Hints.{Knows}
 use Rattle.gj_http.specs.declared.front.Found.{Found}
 use Rattle.gj_http.specs.declared.front.Front.{Front}
 use Rattle.gj_http.specs.declared.front.Front.TheVariants.{Whole, Partial, Bad}
@@ -47,5 +48,5 @@ pub record IsFound (bytes : List ℕ) (found : Found) : Type 0 where
 -- the answer says what stands at the front
 abbrev pub IsFront : List ℕ → Front → Type 0
 IsFront bytes (Whole found) = IsFound bytes found
-IsFront bytes Partial = NeedsMore bytes
+IsFront bytes (Partial hint) = NeedsMore bytes × Knows bytes hint
 IsFront bytes (Bad why) = IsRefused bytes why

@@ -1,6 +1,7 @@
 pub mod Request
 pub mod Heads
 pub mod Cut
+pub mod Hints
 pub mod Found
 pub mod Held
 pub mod Lent

@@ -4,7 +4,7 @@ ghost use Rattle.std.specs.Prelude.{◌≡◌, ℕ, ◌+◌, ◌≤◌, ◌++◌
 ghost use Rattle.std.specs.Str.{IsUtf8};
 ghost use Rattle.gj_http.specs.Cut.{IsBetween};
 
-use crate::front::{Found, Front, empty_lines_at, look};
+use crate::front::{Found, Front, Hint, NO_HINT, empty_lines_at, look};
 use crate::message::{Message, Step};
 use gj_base::Memory;
 use std::alloc::Global;
@@ -20,7 +20,10 @@ const READ: usize = 8192;
 #[derive(Drop)]
 pub struct Framer {
     bytes: Vec<u8>,
+    /// Where the held bytes begin.
     start: usize,
+    /// Of the held bytes, so that none is looked at again for each piece.
+    hint: Hint,
 }
 
 impl Model for Framer {
@@ -32,7 +35,10 @@ impl Model for Framer {
 
     ghost view = { λ f. record { bytes = drop f.start f.bytes.items; room = 1064960 - vec_len f.bytes } };
 
-    ghost invariant = { λ f. (f.start ≤ vec_len f.bytes) × (vec_len f.bytes ≤ 1064960) × (1064960 ≤ vec_capacity f.bytes) };
+    ghost use Rattle.gj_http.specs.Hints.{Knows};
+
+    ghost invariant = { λ f. (f.start ≤ vec_len f.bytes) × (vec_len f.bytes ≤ 1064960) × (1064960 ≤ vec_capacity f.bytes)
+        × Knows (drop f.start f.bytes.items) f.hint };
 }
 
 impl Framer {
@@ -47,7 +53,11 @@ impl Framer {
         ensures ok { IfOk result (λ framer. framer ≡ record { bytes = []; room = 1064960 }) }
     {
         match Vec::with_capacity(alloc, ROOM) {
-            Ok(bytes) => Ok(Framer { bytes, start: 0 }),
+            Ok(bytes) => Ok(Framer {
+                bytes,
+                start: 0,
+                hint: NO_HINT,
+            }),
             Err(_) => Err(Memory),
         }
     }
@@ -78,7 +88,8 @@ impl Framer {
     {
         match self.front() {
             Front::Whole(found) => Step::Message(self.lend(found)),
-            Front::Partial => {
+            Front::Partial(hint) => {
+                self.hint = hint;
                 self.make_room();
                 Step::NeedMore
             }
@@ -90,7 +101,7 @@ impl Framer {
     fn front(&self) -> Front
         ensures { IsFront self.now.bytes result }
     {
-        look(&self.bytes[self.start..])
+        look(&self.bytes[self.start..], self.hint)
     }
 
     /// Takes the message that was found, and lends it.
@@ -101,6 +112,7 @@ impl Framer {
     {
         let from = self.start;
         self.start += found.body.end;
+        self.hint = NO_HINT;
         let bytes = &self.bytes[from..];
         Message {
             method: found.method,
@@ -114,7 +126,7 @@ impl Framer {
     pub fn is_between(&self) -> bool
         ensures { IsTrue result ↔ IsBetween self.now.bytes }
     {
-        empty_lines_at(&self.bytes[self.start..]) == self.bytes.len() - self.start
+        empty_lines_at(&self.bytes[self.start..], 0) == self.bytes.len() - self.start
     }
 
     /// Drops all that is held.
@@ -123,6 +135,7 @@ impl Framer {
     {
         self.bytes.clear();
         self.start = 0;
+        self.hint = NO_HINT;
     }
 
     /// Moves the held bytes to the front where the room for a read is missing.

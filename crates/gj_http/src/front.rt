@@ -1,10 +1,11 @@
 // Where the head at the front of the bytes begins and ends.
 
-ghost use Rattle.std.specs.Prelude.{◌≡◌, ℕ, ◌+◌, ◌^◌, ◌<◌, ◌≤◌, Some, length, IfSome};
+ghost use Rattle.std.specs.Prelude.{◌≡◌, ℕ, ◌+◌, ◌^◌, ◌<◌, ◌≤◌, Some, length, drop, IfSome, option_map};
 ghost use Rattle.gj_http.specs.Cut.{empty_line, empty_lines, close_of_head, head_end, head_length, window};
 ghost use Rattle.gj_http.specs.Found.{IsFront};
+ghost use Rattle.gj_http.specs.Hints.{IsHint, Knows};
 
-use crate::head::read_head;
+use crate::head::{Asked, read_head};
 use crate::message::{Method, Refused};
 use httparse::spans::Span;
 
@@ -23,12 +24,13 @@ fn empty_line_at(bytes: &[u8]) -> usize
     }
 }
 
-/// The length of the empty lines at the front.
-pub fn empty_lines_at(bytes: &[u8]) -> usize
+/// The length of the empty lines at the front, of which `passed` bytes are known.
+pub fn empty_lines_at(bytes: &[u8], mut passed: usize) -> usize
+    requires within { passed ≤ length bytes.now }
+    requires lines { passed + empty_lines (drop passed bytes.now) ≡ empty_lines bytes.now }
     ensures exact { result ≡ empty_lines bytes.now }
     ensures within { result ≤ length bytes.now }
 {
-    let mut passed = 0;
     while passed < bytes.len() {
         let line = empty_line_at(&bytes[passed..]);
         if line == 0 {
@@ -53,12 +55,14 @@ fn close_at(bytes: &[u8]) -> usize
     }
 }
 
-/// The length of the head at the front, up to and with its end.
-fn head_end_in(bytes: &[u8]) -> Option<usize>
+/// The length of the head at the front, up to and with its end, which is known not to begin before `passed`.
+fn head_end_in(bytes: &[u8], passed: usize) -> Option<usize>
+    requires within { passed ≤ length bytes.now }
+    requires end { option_map (λ n. passed + n) (head_end (drop passed bytes.now)) ≡ head_end bytes.now }
     ensures exact { result ≡ head_end bytes.now }
     ensures within { IfSome result (λ size. size ≤ length bytes.now) }
 {
-    for i in 0..bytes.len() {
+    for i in passed..bytes.len() {
         let close = close_at(&bytes[i..]);
         if close > 0 {
             return Some(i + close);
@@ -66,6 +70,24 @@ fn head_end_in(bytes: &[u8]) -> Option<usize>
     }
     None
 }
+
+/// What is known of the bytes at the front, whatever follows them.
+#[derive(Clone, Copy)]
+pub struct Hint {
+    /// So many are empty lines.
+    pub lines: usize,
+    /// In so many after the lines no end of a head begins.
+    pub passed: usize,
+    /// Where there are fewer in all, a body is not there in full.
+    pub want: usize,
+}
+
+/// Nothing is known.
+pub const NO_HINT: Hint = Hint {
+    lines: 0,
+    passed: 0,
+    want: 0,
+};
 
 /// A whole message, by where it is.
 #[derive(Clone, Copy)]
@@ -81,21 +103,30 @@ pub struct Found {
 #[derive(Clone, Copy)]
 pub enum Front {
     Whole(Found),
-    Partial,
+    /// With what is known then.
+    Partial(Hint),
     Bad(Refused),
 }
 
 /// What stands at the front of the bytes.
-pub fn look(bytes: &[u8]) -> Front
+pub fn look(bytes: &[u8], hint: Hint) -> Front
+    requires { Knows bytes.now hint }
     ensures { IsFront bytes.now result }
 {
+    if bytes.len() < hint.want {
+        return Front::Partial(hint);
+    }
     let window = &bytes[..MAX_HEAD.min(bytes.len())];
-    let start = empty_lines_at(window);
-    match head_end_in(&window[start..]) {
-        Some(size) => look_past(bytes, start, size),
+    let start = lines_in(window, hint);
+    match head_end_in(&window[start..], hint.passed) {
+        Some(size) => look_past(bytes, hint, start, size),
         None => {
             if bytes.len() < MAX_HEAD {
-                Front::Partial
+                Front::Partial(Hint {
+                    lines: start,
+                    passed: (bytes.len() - start).saturating_sub(2),
+                    want: 0,
+                })
             } else {
                 Front::Bad(Refused::HeadLong)
             }
@@ -103,8 +134,22 @@ pub fn look(bytes: &[u8]) -> Front
     }
 }
 
+/// The length of the empty lines at the front of the window.
+fn lines_in(seen: &[u8], hint: Hint) -> usize
+    requires { IsHint seen.now hint }
+    ensures exact { result ≡ empty_lines seen.now }
+    ensures within { result + hint.passed ≤ length seen.now }
+{
+    if hint.passed > 0 {
+        hint.lines
+    } else {
+        empty_lines_at(seen, hint.lines)
+    }
+}
+
 /// What stands at the front of the bytes, whose head begins at `start` and has `size` bytes.
-fn look_past(bytes: &[u8], start: usize, size: usize) -> Front
+fn look_past(bytes: &[u8], hint: Hint, start: usize, size: usize) -> Front
+    requires known { Knows bytes.now hint }
     requires start { start ≡ empty_lines (window bytes.now) }
     requires size { head_length bytes.now ≡ Some size }
     requires within { start + size ≤ length bytes.now }
@@ -114,32 +159,38 @@ fn look_past(bytes: &[u8], start: usize, size: usize) -> Front
     match read_head(&bytes[start..after]) {
         Err(why) => Front::Bad(why),
         Ok(asked) => {
-            if bytes.len() - after < asked.length {
-                Front::Partial
-            } else {
-                Front::Whole(Found {
-                    method: asked.method,
-                    path: moved(asked.path, start),
-                    body: Span {
-                        start: after,
-                        end: after + asked.length,
-                    },
-                    close: asked.close,
+            let end = after + asked.length;
+            if bytes.len() < end {
+                Front::Partial(Hint {
+                    lines: hint.lines,
+                    passed: hint.passed,
+                    want: end,
                 })
+            } else {
+                Front::Whole(found_past(asked, start, after, end))
             }
         }
     }
 }
 
-/// The span, further by `start`.
-fn moved(span: Span, start: usize) -> Span
-    requires fits { span.end + start < 2 ^ 64 }
-    requires ordered { span.start ≤ span.end }
-    ensures start { result.start ≡ start + span.start }
-    ensures end { result.end ≡ start + span.end }
+/// Where the parts of a message are, whose head begins at `start` and whose body is there from `after` to `end`.
+fn found_past(asked: Asked, start: usize, after: usize, end: usize) -> Found
+    requires path { asked.path.start ≤ asked.path.end }
+    requires fits { start + asked.path.end < 2 ^ 64 }
+    ensures method { result.method ≡ asked.method }
+    ensures path_start { result.path.start ≡ start + asked.path.start }
+    ensures path_end { result.path.end ≡ start + asked.path.end }
+    ensures body_start { result.body.start ≡ after }
+    ensures body_end { result.body.end ≡ end }
+    ensures close { result.close ≡ asked.close }
 {
-    Span {
-        start: start + span.start,
-        end: start + span.end,
+    Found {
+        method: asked.method,
+        path: Span {
+            start: start + asked.path.start,
+            end: start + asked.path.end,
+        },
+        body: Span { start: after, end },
+        close: asked.close,
     }
 }

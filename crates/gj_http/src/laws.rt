@@ -1,9 +1,10 @@
 // The laws of cutting.
 
 ghost use Rattle.std.specs.Prelude.{◌≡◌, ℕ, List, ◌++◌, Option, Some};
+ghost use Rattle.std.specs.List.{concat};
 ghost use Rattle.gj_http.specs.Request.{Request};
 ghost use Rattle.gj_http.specs.Cut.{IsMessage, IsRefused, NeedsMore, Cuts};
-ghost use Rattle.gj_http.specs.Calls.{Call, Runs, fed, taken};
+ghost use Rattle.gj_http.specs.Calls.{Call, Feeds, Runs, fed, taken};
 ghost use Rattle.gj_http.specs.declared.message.Refused.{Refused};
 
 /// At the front stands one message with one rest, or the bytes are refused for one cause, or they need more.
@@ -48,3 +49,11 @@ pub fn taken_as_cut()
     ensures { (held now : List ℕ) (calls : List Call) (later : List Request) (why : Option Refused) (rest : List ℕ)
         → Runs held calls now → Cuts now later why rest → Cuts (held ++ fed calls) (taken calls ++ later) why rest }
 {}
+
+/// However the bytes come in pieces: where all messages are taken after each piece, what is taken in order, and then the
+/// refusal or the wish for more, is what all the bytes are cut into.
+pub fn fed_as_cut()
+    ensures { (held : List ℕ) (pieces : List (List ℕ)) (messages : List Request) (why : Option Refused) (rest : List ℕ)
+        → Feeds held pieces messages why rest → Cuts (held ++ concat pieces) messages why rest }
+{
+}

@@ -13,5 +13,5 @@ mod message;
 mod options;
 
 pub use framer::Framer;
-pub use laws::{beginnings, cut_goes_on, front_stays, one_cut, one_front, taken_as_cut};
+pub use laws::{beginnings, cut_goes_on, fed_as_cut, front_stays, one_cut, one_front, taken_as_cut};
 pub use message::{Message, Method, Refused, Step};
