@@ -1,4 +1,11 @@
+pub mod BeginLemmas
+pub mod BoundLemmas
+pub mod CutLemmas
 pub mod FixedLemmas
+pub mod FoundLemmas
+pub mod FrontLemmas
+pub mod HeadLemmas
+pub mod HintLemmas
 pub mod ResponseLemmas
 pub mod RowLemmas
 pub mod TableLemmas

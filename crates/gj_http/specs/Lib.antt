@@ -1,3 +1,12 @@
+pub mod Calls
+pub mod Cut
+pub mod Found
+pub mod Heads
+pub mod Held
+pub mod Hints
+pub mod Lent
+pub mod Request
 pub mod Response
 pub mod Routes
 pub mod Table
+pub mod Taken

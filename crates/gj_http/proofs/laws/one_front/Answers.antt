@@ -1,0 +1,11 @@
+use Rattle.gj_http.proofs.CutLemmas.{IsMessage-unique, IsRefused-unique, no_refused_message, no_partial_message, no_partial_refusal}
+use Rattle.gj_http.proofs.laws.one_front.Goals as goal
+
+pub returns : goal.returns
+returns c = record {
+  message = IsMessage-unique;
+  refusal = IsRefused-unique;
+  no_refused_message = no_refused_message;
+  no_partial_message = no_partial_message;
+  no_partial_refusal = no_partial_refusal;
+}
