@@ -4,6 +4,8 @@
 //! result, and the calls that look at the seed users' interactions for these too.
 #![tactic(auto)]
 
+mod across;
+mod best;
 mod explain;
 mod order;
 mod ranked;
