@@ -7,9 +7,13 @@
 mod across;
 mod best;
 mod explain;
+mod laws;
 mod order;
 mod ranked;
+#[cfg(test)]
+mod tests;
 
 pub use explain::{explained, proofs};
+pub use laws::ranking_law;
 pub use order::rank;
 pub use ranked::{Ranked, RankedList};
