@@ -65,17 +65,18 @@ placed_permutation : (xs : List (ℕ × ℕ)) (pair : ℕ × ℕ) → IsPermutat
 unfolding placed
 placed_permutation [] pair = IsPermutation-refl (pair ∷ [])
 placed_permutation (x ∷ xs) pair =
-    elim (comes_before x pair) as (λ b. IsPermutation (pair ∷ x ∷ xs) (cond b (x ∷ placed xs pair) (pair ∷ x ∷ xs)))
-        [ true ↦ IsPermutation-trans (pair ∷ x ∷ xs) (x ∷ pair ∷ xs) (x ∷ placed xs pair) (IsPermutation-middle (pair ∷ []) x xs)
-            (IsPermutation-cons x (pair ∷ xs) (placed xs pair) (placed_permutation xs pair))
-        | false ↦ IsPermutation-refl (pair ∷ x ∷ xs) ]
+    elim (comes_before x pair) as (λ b. IsPermutation (pair ∷ x ∷ xs) (cond b (x ∷ placed xs pair) (pair ∷ x ∷ xs))) [
+      | true ↦ IsPermutation-trans (pair ∷ x ∷ xs) (x ∷ pair ∷ xs) (x ∷ placed xs pair) (IsPermutation-middle (pair ∷ []) x xs)
+          (IsPermutation-cons x (pair ∷ xs) (placed xs pair) (placed_permutation xs pair))
+      | false ↦ IsPermutation-refl (pair ∷ x ∷ xs)
+    ]
 
 fold_permutation : (rest done : List (ℕ × ℕ)) → IsPermutation (done ++ rest) (fold placed done rest)
 fold_permutation [] done = rw (append-nil done) (IsPermutation-refl done)
 fold_permutation (pair ∷ rest) done =
     IsPermutation-trans (done ++ pair ∷ rest) (pair ∷ (done ++ rest)) (fold placed (placed done pair) rest) (IsPermutation-middle done pair rest)
     (IsPermutation-trans (pair ∷ (done ++ rest)) (placed done pair ++ rest) (fold placed (placed done pair) rest)
-        (IsPermutation-append_left rest (pair ∷ done) (placed done pair) (placed_permutation done pair)) (fold_permutation rest (placed done pair)))
+    (IsPermutation-append_left rest (pair ∷ done) (placed done pair) (placed_permutation done pair)) (fold_permutation rest (placed done pair)))
 
 -- distinct posts
 
@@ -142,14 +143,14 @@ has_filter p post [] e = refl
 has_filter p post (x ∷ xs) e =
     let parts = or_no (nat_eq x.0 post) (has post xs) e in
     elim (p x) as (λ b. has post (cond b (x ∷ filter p xs) (filter p xs)) ≡ false)
-        [ true ↦ rw (parts.0) (has_filter p post xs parts.1) | false ↦ has_filter p post xs parts.1 ]
+    [ true ↦ rw (parts.0) (has_filter p post xs parts.1) | false ↦ has_filter p post xs parts.1 ]
 
 distinct_filter : (p : ℕ × ℕ → Bool) (xs : List (ℕ × ℕ)) → are_distinct (posts_of xs) ≡ true → are_distinct (posts_of (filter p xs)) ≡ true
 distinct_filter p [] e = refl
 distinct_filter p (x ∷ xs) e =
     let parts = and_parts (not (has x.0 xs)) (are_distinct (posts_of xs)) e in
     elim (p x) as (λ b. are_distinct (posts_of (cond b (x ∷ filter p xs) (filter p xs))) ≡ true)
-        [ true ↦ rw (has_filter p x.0 xs (not_true _ parts.0)) (distinct_filter p xs parts.1) | false ↦ distinct_filter p xs parts.1 ]
+    [ true ↦ rw (has_filter p x.0 xs (not_true _ parts.0)) (distinct_filter p xs parts.1) | false ↦ distinct_filter p xs parts.1 ]
 
 has_at : (xs : List (ℕ × ℕ)) (j : ℕ) (d : ℕ × ℕ) (post : ℕ) → j < length xs → post ≡ (get_or xs j d).0 → has post xs ≡ false → ⊥
 has_at [] j d post l e none = absurd (omega arith)
