@@ -1,5 +1,5 @@
 -- What a ranking is, in the subject's own words.
-use Rattle.std.specs.Prelude.{◌≡◌, ℕ, Bool, true, false, IsTrue, List, map, filter, min, length, All, AllPairs, Contains}
+use Rattle.std.specs.Prelude.{◌≡◌, ℕ, Bool, false, IsTrue, List, map, filter, min, length, All, AllPairs, Contains}
 use Rattle.gj_base.specs.declared.item.Item.{Item}
 use Rattle.gj_base.specs.Asks.{are_distinct}
 use Rattle.gj_proof.specs.declared.ranked.Ranked.{Ranked}

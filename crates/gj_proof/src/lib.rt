@@ -4,10 +4,16 @@
 //! result, and the calls that look at the seed users' interactions for these too.
 #![tactic(auto)]
 
+mod across;
+mod best;
 mod explain;
+mod laws;
 mod order;
 mod ranked;
+#[cfg(test)]
+mod tests;
 
 pub use explain::{explained, proofs};
+pub use laws::ranking_law;
 pub use order::rank;
 pub use ranked::{Ranked, RankedList};

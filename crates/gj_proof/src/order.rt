@@ -1,13 +1,11 @@
 //! The order of a ranking.
-ghost use Rattle.std.specs.Prelude.{◌≡◌, ℕ, ◌<◌, Bool, IsTrue, List, map, All, IfOk};
-ghost use Rattle.std.specs.Ordering.{nat_cmp};
-ghost use Rattle.gj_base.specs.declared.item.Item.{Item};
-ghost use Rattle.gj_base.specs.Asks.{are_distinct};
-ghost use Rattle.gj_proof.specs.Ranking.{ranked_of};
-ghost use Rattle.gj_proof.specs.Laws.{IsRanking, pair_of, posts_of};
+ghost use Rattle.std.specs.Prelude.{◌≡◌, ◌<◌, map, All, IfOk};
+ghost use Rattle.gj_proof.specs.Ranking.{ranked_of, unexplained};
 
-use crate::ranked::RankedList;
-use gj_base::{Graph, IdList, Memory};
+use crate::across::hidden_posts;
+use crate::best::best_of;
+use crate::ranked::{Ranked, RankedList};
+use gj_base::{Graph, IdList, List, Memory};
 use std::alloc::Global;
 use std::collections::BTreeMap;
 
@@ -24,5 +22,22 @@ pub fn rank<G: Graph>(
     requires { All (λ pair. 0 < pair.1) scores.now.entries }
     ensures { IfOk result (λ ranking. ranking ≡ ranked_of (G.shown graph.now).items seeds.now scores.now.entries hide top) }
 {
-    Err(Memory)
+    let hidden = hidden_posts(alloc, graph, seeds, hide)?;
+    let best = best_of(alloc, scores, &hidden, top as usize)?;
+    unexplained(alloc, best.as_slice())
+}
+
+/// These pairs, with empty proofs.
+fn unexplained(alloc: Global, best: &[(u64, u64)]) -> Result<RankedList, Memory>
+    ensures { IfOk result (λ ranking. ranking ≡ map unexplained best.now) }
+{
+    let mut ranking = List::new(alloc);
+    for pair in best {
+        ranking.push(Ranked {
+            id: pair.0,
+            number: pair.1,
+            proof: List::new(alloc),
+        })?;
+    }
+    Ok(ranking)
 }

@@ -1,0 +1,83 @@
+-- Whether the ends of a vertex lead to another, end by end.
+use Rattle.std.proofs.Common.{◌≡◌, ℕ, zero, suc, ◌+◌, ◌∙◌, ◌-◌, ◌<◌, ◌≤◌, ◌++◌, ◌||◌, ◌&&◌, Bool, true, false, cond, nat_eq, List, [], ◌∷◌, length, take, filter, map, slice_get, Some, append_assoc, append-nil, length-append, ap, sym, refl, arith}
+use Rattle.std.proofs.lemmas.List.Folds.{list_any_more}
+use Rattle.std.proofs.lemmas.Option.{get_or_from_slice_get, slice_get_within}
+use Rattle.gj_base.specs.declared.kind.Kind.{Kind}
+use Rattle.gj_base.specs.declared.item.Item.{Item}
+use Rattle.gj_base.specs.declared.mask.Mask.{Mask}
+use Rattle.gj_base.specs.declared.side.Side.TheVariants.{User, Post}
+use Rattle.gj_base.specs.Ends.{ends, end_across, is_eligible, passes}
+use Rattle.gj_proof.specs.Proofs.{leads_to}
+
+-- one more end
+pub leads_more : (edges : List (ℕ × Kind)) (i v : ℕ) (end : ℕ × Kind) → slice_get edges i ≡ Some end
+    → leads_to (take (i + 1) edges) v ≡ (leads_to (take i edges) v || nat_eq end.0 v)
+leads_more edges i v end is =
+    let within = slice_get_within edges i end is in
+    list_any_more (λ e. nat_eq e.0 v) edges i end within
+    ∙ ap (λ (e : ℕ × Kind). leads_to (take i edges) v || nat_eq e.0 v) (get_or_from_slice_get edges i end end is)
+
+-- an end that is found in a front is found in all
+pub leads_found : (edges : List (ℕ × Kind)) (i v : ℕ) (end : ℕ × Kind) → slice_get edges i ≡ Some end → nat_eq end.0 v ≡ true
+    → leads_to edges v ≡ true
+leads_found [] i v end is e = cc
+leads_found (x ∷ xs) zero v end is e = let same : x ≡ end = cc in rw (same, e) refl
+leads_found (x ∷ xs) (suc i) v end is e = rw (leads_found xs i v end is e) (or_true (nat_eq x.0 v))
+  where
+    or_true : (b : Bool) → (b || true) ≡ true
+    or_true true = refl
+    or_true false = refl
+
+-- a set with v put in
+pub or_added : (more was b : Bool) → more ≡ cond b true was → more ≡ (was || b)
+or_added more true true e = e
+or_added more false true e = e
+or_added more true false e = e
+or_added more false false e = e
+
+-- one more part of a test of a whole
+pub or_more : (more was before front b whole : Bool) → more ≡ (was || b) → was ≡ (before || front) → whole ≡ (front || b) → more ≡ (before || whole)
+or_more more was true front b whole e f g = rw f at e
+or_more more was false front b whole e f g = rw f at e ∙ sym g
+
+-- neither part of a test
+pub or_none : (more front b : Bool) → more ≡ (front || b) → front ≡ false → b ≡ false → more ≡ false
+or_none more front b e f g = rw (f, g) at e
+
+leads_case : (a b p : Bool) (x : Item) (ls rs : List Item) (user post : ℕ) → nat_eq x.user user ≡ a → nat_eq x.post post ≡ b
+    → leads_to (map (end_across User) ls) post ≡ leads_to (map (end_across Post) rs) user
+    → leads_to (map (end_across User) (cond (a && p) (x ∷ ls) ls)) post ≡ leads_to (map (end_across Post) (cond (b && p) (x ∷ rs) rs)) user
+leads_case true true true x ls rs user post ea eb e = rw (ea, eb) refl
+leads_case true false true x ls rs user post ea eb e = rw eb e
+leads_case false true true x ls rs user post ea eb e = rw ea e
+leads_case false false true x ls rs user post ea eb e = e
+leads_case true true false x ls rs user post ea eb e = e
+leads_case true false false x ls rs user post ea eb e = e
+leads_case false true false x ls rs user post ea eb e = e
+leads_case false false false x ls rs user post ea eb e = e
+
+-- an interaction leads from either of its vertices to the other
+pub leads_back : (items : List Item) (user post : ℕ) (mask : Mask) → leads_to (ends items User user mask) post ≡ leads_to (ends items Post post mask) user
+unfolding ends
+leads_back [] user post mask = refl
+leads_back (x ∷ xs) user post mask =
+    leads_case (nat_eq x.user user) (nat_eq x.post post) (passes mask x) x (filter (is_eligible User user mask) xs)
+    (filter (is_eligible Post post mask) xs) user post refl refl (leads_back xs user post mask)
+
+-- one more seed user of those that are looked at
+pub picked_more : (most : ℕ) (explains : ℕ → Bool) (proof new all left rest : List ℕ) (seed : ℕ) (b : Bool) → length proof < most
+    → left ≡ seed ∷ rest → b ≡ explains seed → new ≡ cond b (proof ++ seed ∷ []) proof
+    → proof ++ take (most - length proof) (filter explains left) ≡ all → new ++ take (most - length new) (filter explains rest) ≡ all
+picked_more most explains proof new all left rest seed true h l e n was =
+    let one : most - length proof ≡ suc (most - length new) = rw n (simp length-append (omega arith)) in
+    let found : new ++ take (most - length new) (filter explains rest) ≡ proof ++ seed ∷ take (most - length new) (filter explains rest) =
+    ap (λ (front : List ℕ). front ++ take (most - length new) (filter explains rest)) n ∙ append_assoc proof (seed ∷ []) _ in
+    found ∙ rw (l, ← e, one) at was
+picked_more most explains proof new all left rest seed false h l e n was = rw n (rw (l, ← e) at was)
+
+pub picked_full : (most : ℕ) (proof all left : List ℕ) → most ≤ length proof → proof ++ take (most - length proof) left ≡ all → proof ≡ all
+picked_full most proof all left h was = let none : most - length proof ≡ 0 = omega arith in sym (append-nil proof) ∙ rw none at was
+
+pub picked_all : (n : ℕ) (explains : ℕ → Bool) (proof all left : List ℕ) → left ≡ [] → proof ++ take n (filter explains left) ≡ all → proof ≡ all
+picked_all zero explains proof all left l was = sym (append-nil proof) ∙ was
+picked_all (suc n) explains proof all left l was = sym (append-nil proof) ∙ rw l at was
