@@ -119,8 +119,8 @@ no_hint bytes hint lines passed want = λ more. (
     lines = ap (λ (k : ℕ). k + empty_lines (drop k (window (bytes ++ more)))) lines ∙ omega arith;
     settled = λ some. absurd (omega (arith, some, passed));
     passed =
-      ap (λ (k : ℕ). option_map (λ n. k + n) (head_end (drop k (drop (empty_lines (window (bytes ++ more))) (window (bytes ++ more)))))) passed
-      ∙ option_map_zero (head_end (drop (empty_lines (window (bytes ++ more))) (window (bytes ++ more))));
+        ap (λ (k : ℕ). option_map (λ n. k + n) (head_end (drop k (drop (empty_lines (window (bytes ++ more))) (window (bytes ++ more)))))) passed
+        ∙ option_map_zero (head_end (drop (empty_lines (window (bytes ++ more))) (window (bytes ++ more))));
   },
   λ short. absurd (omega (arith, short, want)),
 )
@@ -142,7 +142,7 @@ pub body_hint : (bytes : List ℕ) (hint next : Hint) (head : RequestHead) (n : 
     → BeginsWith bytes head (drop n bytes) → body_length head ≡ Ok (next.want - n) → n ≤ length bytes → Knows bytes next
 body_hint bytes hint next head n knows lines passed begins stated within = λ more. (
   subst (λ (h : Hint). IsHint (window (bytes ++ more)) h) (λ i. record { lines = sym lines i; passed = sym passed i; want = next.want })
-  (keep hint next.want (window (bytes ++ more)) (knows more).0),
+      (keep hint next.want (window (bytes ++ more)) (knows more).0),
   λ short. inr (record {
     head = head;
     tail = drop n bytes ++ more;
@@ -167,8 +167,7 @@ search_hint bytes next short lines passed want none = λ more.
     let all : window (bytes ++ more) ≡ bytes ++ c = (window-append bytes more).1 ∙ ap (λ (b : List ℕ). b ++ c) same in
     let start : next.lines ≡ empty_lines bytes = lines ∙ ap empty_lines same in
     let none' : head_end (drop (empty_lines bytes) bytes) ≡ None =
-      ap (λ (b : List ℕ). head_end (drop (empty_lines b) b)) (sym same) ∙ none in
-    (
+    ap (λ (b : List ℕ). head_end (drop (empty_lines b) b)) (sym same) ∙ none in (
       subst (λ (b : List ℕ). IsHint b next) (sym all) (hint_over bytes c next start passed none'),
       λ few. absurd (omega (arith, few, want)),
     )
@@ -182,27 +181,27 @@ search_hint bytes next short lines passed want none = λ more.
         let apart : drop (empty_lines bytes) (bytes ++ c) ≡ x ++ c = drop-append-le (empty_lines bytes) bytes c short in
         let go_on = empty_lines-go_on bytes c in
         let settles : 0 < next.passed → empty_lines (bytes ++ c) ≡ empty_lines bytes = λ some.
-          let two : 2 ≤ length x = omega (arith, some, passed, start, left) in
-          let none_there = settled_by_two x c two (no_more_lines bytes) in
-          omega (arith, go_on, none_there, ap empty_lines apart) in
+        let two : 2 ≤ length x = omega (arith, some, passed, start, left) in
+        let none_there = settled_by_two x c two (no_more_lines bytes) in
+        omega (arith, go_on, none_there, ap empty_lines apart) in
         record {
           within = omega (arith, passed, start, short, length-append bytes c);
           lines = ap (λ (k : ℕ). k + empty_lines (drop k (bytes ++ c))) start ∙ go_on;
           settled = λ some. settles some ∙ sym start;
           passed =
-            elim (cases_lt 0 next.passed) [
-              | inl some ↦
-                  let here : drop (empty_lines (bytes ++ c)) (bytes ++ c) ≡ x ++ c =
+              elim (cases_lt 0 next.passed) [
+                | inl some ↦
+                    let here : drop (empty_lines (bytes ++ c)) (bytes ++ c) ≡ x ++ c =
                     ap (λ (k : ℕ). drop k (bytes ++ c)) (settles some) ∙ apart in
-                  let fits : next.passed + 2 ≤ length x = omega (arith, some, passed, start, left) in
-                  ap (λ (b : List ℕ). option_map (λ n. next.passed + n) (head_end (drop next.passed b))) here
-                  ∙ passed_by next.passed x c none fits
-                  ∙ ap head_end (sym here)
-              | inr below ↦
-                  let zero' : next.passed ≡ 0 = omega (arith, below) in
-                  let rest = drop (empty_lines (bytes ++ c)) (bytes ++ c) in
-                  ap (λ (k : ℕ). option_map (λ n. k + n) (head_end (drop k rest))) zero' ∙ option_map_zero (head_end rest)
-            ];
+                    let fits : next.passed + 2 ≤ length x = omega (arith, some, passed, start, left) in
+                    ap (λ (b : List ℕ). option_map (λ n. next.passed + n) (head_end (drop next.passed b))) here
+                    ∙ passed_by next.passed x c none fits
+                    ∙ ap head_end (sym here)
+                | inr below ↦
+                    let zero' : next.passed ≡ 0 = omega (arith, below) in
+                    let rest = drop (empty_lines (bytes ++ c)) (bytes ++ c) in
+                    ap (λ (k : ℕ). option_map (λ n. k + n) (head_end (drop k rest))) zero' ∙ option_map_zero (head_end rest)
+              ];
         }
 
 pub hint_seen : (bytes seen : List ℕ) (hint : Hint) → seen ≡ window bytes → Knows bytes hint → IsHint seen hint

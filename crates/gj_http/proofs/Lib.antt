@@ -1,6 +1,7 @@
 pub mod BeginLemmas
 pub mod BoundLemmas
 pub mod CutLemmas
+pub mod DecideLemmas
 pub mod FixedLemmas
 pub mod FoundLemmas
 pub mod FrontLemmas
@@ -9,3 +10,4 @@ pub mod HintLemmas
 pub mod ResponseLemmas
 pub mod RowLemmas
 pub mod TableLemmas
+pub mod TotalLemmas

@@ -9,7 +9,7 @@ pub record IsHint (seen : List ℕ) (hint : Hint) : Type 0 where
   pub lines : hint.lines + empty_lines (drop hint.lines seen) ≡ empty_lines seen
   pub settled : 0 < hint.passed → empty_lines seen ≡ hint.lines
   pub passed : option_map (λ n. hint.passed + n) (head_end (drop hint.passed (drop (empty_lines seen) seen)))
-    ≡ head_end (drop (empty_lines seen) seen)
+      ≡ head_end (drop (empty_lines seen) seen)
 
 -- the hint is right of the bytes and of all that begin with them
 abbrev pub Knows : List ℕ → Hint → Type 0

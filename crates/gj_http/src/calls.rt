@@ -1,14 +1,11 @@
-// What a caller of the framer learns.
+// What a caller of the framer learns, whose message is given back.
 
-ghost use Rattle.std.specs.Prelude.{◌≡◌, ℕ, ◌+◌, ◌<◌, ◌≤◌, length, IfSome, IfNone};
-ghost use Rattle.gj_http.specs.Request.{Request};
-ghost use Rattle.gj_http.specs.Cut.{IsMessage, NeedsMore, IsRefused};
 ghost use Rattle.gj_http.specs.Taken.{IsTaken};
 
 use crate::framer::Framer;
 use crate::message::{Refused, Step};
 
-/// Answers the length of the next body, or why there is none, and leaves what follows the message.
+/// The length of the next body, or the refusal, or nothing where more is needed. What follows the message is left.
 pub fn next_length(framer: &mut Framer) -> Result<usize, Option<Refused>>
     ensures { IsTaken framer.old framer.new result }
 {

@@ -1,6 +1,6 @@
 // The laws of cutting.
 
-ghost use Rattle.std.specs.Prelude.{◌≡◌, ℕ, List, ◌++◌, Option, Some};
+ghost use Rattle.std.specs.Prelude.{◌≡◌, ◌⊎◌, ℕ, List, ◌++◌, Option, Some};
 ghost use Rattle.std.specs.List.{concat};
 ghost use Rattle.gj_http.specs.Request.{Request};
 ghost use Rattle.gj_http.specs.Cut.{IsMessage, IsRefused, NeedsMore, Cuts};
@@ -9,6 +9,8 @@ ghost use Rattle.gj_http.specs.declared.message.Refused.{Refused};
 
 /// At the front stands one message with one rest, or the bytes are refused for one cause, or they need more.
 pub fn one_front()
+    ensures some { (bytes : List ℕ) → ((request : Request) × (rest : List ℕ) × IsMessage bytes request rest)
+        ⊎ (((why : Refused) × IsRefused bytes why) ⊎ NeedsMore bytes) }
     ensures message { (bytes : List ℕ) (first second : Request) (rest others : List ℕ) → IsMessage bytes first rest → IsMessage bytes second others
         → (first ≡ second) × (rest ≡ others) }
     ensures refusal { (bytes : List ℕ) (first second : Refused) → IsRefused bytes first → IsRefused bytes second → first ≡ second }
@@ -21,6 +23,11 @@ pub fn one_front()
 pub fn front_stays()
     ensures message { (bytes more : List ℕ) (request : Request) (rest : List ℕ) → IsMessage bytes request rest → IsMessage (bytes ++ more) request (rest ++ more) }
     ensures refusal { (bytes more : List ℕ) (why : Refused) → IsRefused bytes why → IsRefused (bytes ++ more) why }
+{}
+
+/// All bytes are cut.
+pub fn some_cut()
+    ensures { (bytes : List ℕ) → (messages : List Request) × (why : Option Refused) × (rest : List ℕ) × Cuts bytes messages why rest }
 {}
 
 /// Bytes are cut in one way only.
@@ -55,5 +62,4 @@ pub fn taken_as_cut()
 pub fn fed_as_cut()
     ensures { (held : List ℕ) (pieces : List (List ℕ)) (messages : List Request) (why : Option Refused) (rest : List ℕ)
         → Feeds held pieces messages why rest → Cuts (held ++ concat pieces) messages why rest }
-{
-}
+{}

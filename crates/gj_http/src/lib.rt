@@ -5,7 +5,6 @@
 //! codes. `Framer::new`, `Routes::new` and `response` take memory; no other call takes any.
 #![tactic(auto)]
 
-mod calls;
 mod fixed;
 mod found;
 mod framer;
@@ -20,7 +19,14 @@ mod routes;
 pub use fixed::fixed_response;
 pub use found::{Found, RouteError};
 pub use framer::Framer;
-pub use laws::{beginnings, cut_goes_on, fed_as_cut, front_stays, one_cut, one_front, taken_as_cut};
+pub use laws::{
+    beginnings, cut_goes_on, fed_as_cut, front_stays, one_cut, one_front, some_cut, taken_as_cut,
+};
 pub use message::{Message, Method, Refused, Step};
 pub use responses::response;
 pub use routes::Routes;
+
+#[cfg(test)]
+mod calls;
+#[cfg(test)]
+mod tests;

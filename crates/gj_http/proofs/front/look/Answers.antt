@@ -37,10 +37,10 @@ returns-then-bytes-lt-MAX_HEAD c =
     let seen = take c.min.result c.args.bytes.now in
     let same : seen ≡ window c.args.bytes.now = ap (λ (k : ℕ). take k c.args.bytes.now) c.min.ensures ∙ take_min 8192 c.args.bytes.now in
     let open_ended = head_length_is c.args.bytes.now seen _ _ same c.lines_in-start.ensures.exact
-      (ap head_end (sym (take_rest seen c.lines_in-start.result)) ∙ sym c.in-None.ensures.exact) in (
+    (ap head_end (sym (take_rest seen c.lines_in-start.result)) ∙ sym c.in-None.ensures.exact) in (
       inl (record { open_ended = open_ended; short = c.if-bytes-lt-MAX_HEAD.true }),
       search_hint c.args.bytes.now _ c.if-bytes-lt-MAX_HEAD.true (c.lines_in-start.ensures.exact ∙ ap empty_lines same)
-      c.saturating_sub.ensures refl open_ended,
+          c.saturating_sub.ensures refl open_ended,
     )
 
 pub returns-else-bytes-lt-MAX_HEAD : goal.returns-else-bytes-lt-MAX_HEAD
@@ -50,6 +50,6 @@ returns-else-bytes-lt-MAX_HEAD c =
     inl (record {
       why_is = refl;
       open_ended = head_length_is c.args.bytes.now seen _ _ same c.lines_in-start.ensures.exact
-        (ap head_end (sym (take_rest seen c.lines_in-start.result)) ∙ sym c.in-None.ensures.exact);
+          (ap head_end (sym (take_rest seen c.lines_in-start.result)) ∙ sym c.in-None.ensures.exact);
       full = c.if-bytes-lt-MAX_HEAD.false;
     })

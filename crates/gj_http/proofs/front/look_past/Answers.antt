@@ -27,8 +27,8 @@ returns-then-bytes-end c =
     let rest : n + c.in-Ok.asked.length - n ≡ c.in-Ok.asked.length = omega arith in (
       needs_more_from_short c.args.bytes.now c.args.start c.args.size c.in-Ok.asked ok.0 c.requires.start c.requires.size ok.1 ok.2 (omega arith),
       body_hint c.args.bytes.now c.args.hint _ ok.0 n c.requires.known refl refl
-      (begins_with c.args.bytes.now c.args.start c.args.size ok.0 c.requires.start c.requires.size ok.1) (ok.2.stated ∙ ap Ok (sym rest))
-      c.requires.within,
+          (begins_with c.args.bytes.now c.args.start c.args.size ok.0 c.requires.start c.requires.size ok.1) (ok.2.stated ∙ ap Ok (sym rest))
+          c.requires.within,
     )
 
 pub returns-else-bytes-end : goal.returns-else-bytes-end

@@ -1,8 +1,10 @@
 use Rattle.gj_http.proofs.CutLemmas.{IsMessage-unique, IsRefused-unique, no_refused_message, no_partial_message, no_partial_refusal}
+use Rattle.gj_http.proofs.TotalLemmas.{front_of}
 use Rattle.gj_http.proofs.laws.one_front.Goals as goal
 
 pub returns : goal.returns
 returns c = record {
+  some = front_of;
   message = IsMessage-unique;
   refusal = IsRefused-unique;
   no_refused_message = no_refused_message;
