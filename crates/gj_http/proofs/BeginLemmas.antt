@@ -1,14 +1,14 @@
 -- What stands at the front of a beginning stands at the front of the whole.
-use Rattle.std.proofs.Common.{◌≡◌, ℕ, suc, ◌+◌, ◌-◌, ◌<◌, ◌≤◌, Bool, true, false, ◌&&◌, not, if◌then◌else◌, List, [], ◌∷◌, ◌++◌, length, take, drop, Option, Some, None, Ok, Err, refl, sym, ap, subst, ◌∙◌, arith, eqb, length-take, length-drop, length-append, inl, inr}
+use Rattle.std.proofs.Common.{◌≡◌, ℕ, ◌+◌, ◌-◌, ◌<◌, ◌≤◌, Bool, true, false, ◌&&◌, not, if◌then◌else◌, List, [], ◌∷◌, ◌++◌, length, take, drop, Option, Some, None, refl, sym, ap, subst, ◌∙◌, arith, eqb, length-drop, length-append, inl, inr}
 use Rattle.std.specs.Option.{option_map}
-use Rattle.std.proofs.lemmas.Bool.{cases_lt, cases_eq, cases_Bool, and_parts, cond-true, cond-false, not-true, not_from_false, eqb-false, ne_eqb}
+use Rattle.std.proofs.lemmas.Bool.{cases_lt, cond-true, cond-false, eqb-false}
 use Rattle.std.proofs.lemmas.List.{append-nil, take-append-le, drop-append-le, drop-drop, take_all}
 use Rattle.std.proofs.Math.Seq.{take-append-add}
 use Rattle.httparse.specs.Grammar.{RequestHead}
 use Rattle.httparse.proofs.GrammarLemmas.{request_unique}
 use Rattle.gj_http.specs.Request.{Request}
-use Rattle.gj_http.specs.Heads.{IsHead, body_length, request_of}
-use Rattle.gj_http.specs.Cut.{empty_line, empty_lines, close_of_head, head_end, head_length, head_bytes, after_head, window, BeginsWith, IsMessage, IsRefused, NeedsMore}
+use Rattle.gj_http.specs.Heads.{IsHead, request_of}
+use Rattle.gj_http.specs.Cut.{empty_line, empty_lines, close_of_head, head_end, head_length, head_bytes, after_head, window, BeginsWith, IsMessage, IsRefused}
 use Rattle.gj_http.specs.declared.message.Refused.{Refused}
 use Rattle.gj_http.proofs.FrontLemmas.{empty_lines-le-length, head_end_found, head_end_more}
 use Rattle.gj_http.proofs.BoundLemmas.{head_length-within}

@@ -1,12 +1,11 @@
 -- How long the bytes are that need more.
-use Rattle.std.proofs.Common.{◌≡◌, ℕ, suc, ◌+◌, ◌≤◌, Bool, true, false, ◌&&◌, not, if◌then◌else◌, List, [], ◌∷◌, length, drop, Option, Some, None, Result, Ok, Err, refl, sym, ap, ◌∙◌, arith, eqb, leb, ltb, codes, length-drop, length-take, inl, inr}
+use Rattle.std.proofs.Common.{◌≡◌, ℕ, suc, ◌+◌, ◌≤◌, Bool, true, false, ◌&&◌, not, if◌then◌else◌, List, [], ◌∷◌, length, drop, Option, Some, None, Ok, Err, refl, ap, ◌∙◌, arith, eqb, leb, ltb, codes, length-drop, length-take, inl, inr}
 use Rattle.std.specs.Option.{option_map}
 use Rattle.std.specs.Str.Parse.{digits_value}
 use Rattle.std.proofs.lemmas.Bool.{leb-true}
 use Rattle.httparse.specs.Grammar.{RequestHead}
-use Rattle.gj_http.specs.Heads.{Line, is_number, values, stated_length, one_length, length_by, lines_of, body_length}
+use Rattle.gj_http.specs.Heads.{is_number, values, one_length, lines_of, body_length}
 use Rattle.gj_http.specs.Cut.{empty_line, empty_lines, close_of_head, head_end, head_length, after_head, window, NeedsMore}
-use Rattle.gj_http.specs.declared.message.Refused.{Refused}
 use Rattle.gj_http.specs.declared.message.Refused.TheVariants.{Coded, Length, BodyLong}
 use Rattle.gj_http.proofs.FrontLemmas.{empty_line-le-length, empty_lines-le-length}
 

@@ -1,14 +1,13 @@
 -- Cutting: one way only, and a beginning is cut into a beginning.
-use Rattle.std.proofs.Common.{◌≡◌, ℕ, ◌+◌, ◌<◌, ◌≤◌, List, [], ◌∷◌, ◌++◌, length, take, drop, Option, Some, None, Result, Ok, Err, refl, sym, ap, subst, ◌∙◌, arith, inl, inr, append_assoc}
+use Rattle.std.proofs.Common.{◌≡◌, ℕ, List, [], ◌∷◌, ◌++◌, length, take, drop, Option, Some, None, Result, Ok, Err, refl, sym, ap, subst, ◌∙◌, arith, inl, inr, append_assoc}
 use Rattle.std.proofs.lemmas.List.{append-nil}
 use Rattle.std.specs.List.{concat}
-use Rattle.httparse.specs.Grammar.{RequestHead}
 use Rattle.gj_http.specs.Request.{Request}
 use Rattle.gj_http.specs.Heads.{IsHead, body_length, request_of}
-use Rattle.gj_http.specs.Cut.{head_length, head_bytes, after_head, BeginsWith, IsMessage, IsRefused, NeedsMore, Cuts}
+use Rattle.gj_http.specs.Cut.{head_length, head_bytes, IsMessage, IsRefused, NeedsMore, Cuts}
 use Rattle.gj_http.specs.Calls.{Call, Fed, Took, Wanted, Turned, fed, taken, Runs, Feeds}
 use Rattle.gj_http.specs.declared.message.Refused.{Refused}
-use Rattle.gj_http.proofs.BeginLemmas.{BeginsWith-unique, IsHead-unique, IsMessage-append, IsRefused-append, some_same}
+use Rattle.gj_http.proofs.BeginLemmas.{BeginsWith-unique, IsMessage-append, IsRefused-append, some_same}
 
 none_some : (o : Option ℕ) (n : ℕ) → o ≡ None → o ≡ Some n → ⊥
 none_some o n x y = absurd (cc)

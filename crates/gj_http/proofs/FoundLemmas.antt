@@ -1,13 +1,12 @@
 -- What stands at the front, from where its parts were found.
-use Rattle.std.proofs.Common.{◌≡◌, ℕ, ◌+◌, ◌-◌, ◌<◌, ◌≤◌, List, length, drop, take, slice_range, Some, Ok, Err, refl, sym, ap, subst, ◌∙◌, arith, length-drop, length-take, inl, inr}
+use Rattle.std.proofs.Common.{◌≡◌, ℕ, ◌+◌, ◌-◌, ◌<◌, ◌≤◌, List, length, drop, take, slice_range, Some, sym, ap, subst, ◌∙◌, arith, length-drop, length-take, inl, inr}
 use Rattle.std.proofs.lemmas.List.{take-take, drop-drop, drop-take}
 use Rattle.std.specs.Str.{IsUtf8}
 use Rattle.httparse.specs.Grammar.{RequestHead}
-use Rattle.httparse.specs.Spans.{IsWithin, span_bytes}
-use Rattle.gj_http.specs.Request.{Request}
-use Rattle.gj_http.specs.Heads.{IsHead, body_length, request_of, method_of, path_of, closes, lines_of}
-use Rattle.gj_http.specs.Cut.{empty_lines, window, head_length, head_bytes, after_head, BeginsWith, IsMessage, IsRefused, IsNoHead, StatesNone, NeedsMore, LacksBody}
-use Rattle.gj_http.specs.Found.{Shows, IsBad, IsFound, found_request}
+use Rattle.httparse.specs.Spans.{span_bytes}
+use Rattle.gj_http.specs.Heads.{IsHead, request_of, method_of, path_of, closes, lines_of}
+use Rattle.gj_http.specs.Cut.{empty_lines, window, head_length, head_bytes, after_head, BeginsWith, IsRefused, NeedsMore}
+use Rattle.gj_http.specs.Found.{Shows, IsBad, IsFound}
 use Rattle.gj_http.specs.declared.head.Asked.{Asked}
 use Rattle.gj_http.specs.declared.front.Found.{Found}
 use Rattle.gj_http.specs.declared.message.Refused.{Refused}

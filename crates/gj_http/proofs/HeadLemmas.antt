@@ -1,5 +1,5 @@
 -- What the parts of a head say.
-use Rattle.std.proofs.Common.{◌≡◌, ℕ, ◌+◌, ◌-◌, ◌*◌, ◌<◌, ◌≤◌, Bool, true, false, if◌then◌else◌, List, [], ◌∷◌, length, drop, take, map, slice_range, get_or, Result, Ok, Err, refl, sym, ap, subst, ◌∙◌, arith, leb, length-take, inl, inr, ltb}
+use Rattle.std.proofs.Common.{◌≡◌, ℕ, ◌+◌, ◌-◌, ◌*◌, ◌<◌, ◌≤◌, Bool, true, false, if◌then◌else◌, List, [], ◌∷◌, length, drop, take, map, slice_range, get_or, Result, Ok, Err, sym, ap, subst, ◌∙◌, arith, leb, length-take, inl, inr}
 use Rattle.std.specs.Str.{IsUtf8, IsCharBoundary}
 use Rattle.std.specs.Str.Parse.{digits_value, digits_value_after}
 use Rattle.std.specs.Char.{digit_value, is_ascii_digit}
@@ -8,11 +8,11 @@ use Rattle.std.specs.Result.{IfOk, IfErr}
 use Rattle.std.proofs.lemmas.Bool.{cases_lt, lt-leb, leb-true, lt-ltb, le-ltb, and_parts, cond-true, cond-false}
 use Rattle.std.proofs.lemmas.List.{take-take, drop_more, length-map}
 use Rattle.std.proofs.lemmas.Str.{IsUtf8-take, IsCharBoundary-before_ascii, IsCharBoundary-end}
-use Rattle.httparse.specs.Grammar.{RequestHead, ReadsRequest}
+use Rattle.httparse.specs.Grammar.{RequestHead}
 use Rattle.httparse.specs.Spans.{IsRequestAt, IsWithin, header_bytes, name_and_value, span_bytes}
 use Rattle.httparse.specs.declared.spans.HeaderSpan.{HeaderSpan}
 use Rattle.httparse.specs.declared.spans.RequestSpans.{RequestSpans}
-use Rattle.gj_http.specs.Heads.{IsHead, is_number, stated_length, length_by, lines_of, body_length, closes, method_of, path_of}
+use Rattle.gj_http.specs.Heads.{IsHead, is_number, stated_length, length_by, body_length, closes, method_of, path_of}
 use Rattle.gj_http.specs.Found.{Shows, IsBad}
 use Rattle.gj_http.specs.declared.head.Asked.{Asked}
 use Rattle.gj_http.specs.declared.message.Refused.{Refused}

@@ -1,10 +1,10 @@
 -- What is known of the bytes at the front.
-use Rattle.std.proofs.Common.{◌≡◌, ℕ, zero, suc, ◌+◌, ◌-◌, ◌<◌, ◌≤◌, Bool, true, false, ◌&&◌, not, if◌then◌else◌, List, [], ◌∷◌, ◌++◌, length, take, drop, Option, Some, None, Ok, refl, sym, ap, subst, ◌∙◌, arith, eqb, length-take, length-drop, length-append, inl, inr, append_assoc}
+use Rattle.std.proofs.Common.{◌≡◌, ℕ, zero, suc, ◌+◌, ◌-◌, ◌<◌, ◌≤◌, Bool, true, false, ◌&&◌, if◌then◌else◌, List, [], ◌∷◌, ◌++◌, length, drop, Option, Some, None, Ok, refl, sym, ap, subst, ◌∙◌, arith, eqb, length-drop, length-append, inl, inr, append_assoc}
 use Rattle.std.specs.Option.{option_map}
-use Rattle.std.proofs.lemmas.Bool.{cases_lt, cond-true, cond-false}
+use Rattle.std.proofs.lemmas.Bool.{cases_lt, cond-false}
 use Rattle.std.proofs.lemmas.List.{append-nil, drop-append-le, drop-drop, take_all}
 use Rattle.httparse.specs.Grammar.{RequestHead}
-use Rattle.gj_http.specs.Heads.{IsHead, body_length}
+use Rattle.gj_http.specs.Heads.{body_length}
 use Rattle.gj_http.specs.Cut.{empty_line, empty_lines, close_of_head, head_end, window, head_length, BeginsWith, NeedsMore}
 use Rattle.gj_http.specs.Hints.{IsHint, Knows}
 use Rattle.gj_http.specs.declared.front.Hint.{Hint}

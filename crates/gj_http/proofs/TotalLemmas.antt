@@ -1,11 +1,11 @@
 -- All bytes are cut.
-use Rattle.std.proofs.Common.{◌≡◌, ℕ, zero, suc, ◌+◌, ◌-◌, ◌<◌, ◌≤◌, ◌⊎◌, Bool, true, false, if◌then◌else◌, eqb, List, [], ◌∷◌, ◌++◌, length, take, drop, Option, Some, None, Result, Ok, Err, refl, sym, ap, ◌∙◌, arith, inl, inr, length-drop}
+use Rattle.std.proofs.Common.{◌≡◌, ℕ, zero, suc, ◌+◌, ◌<◌, ◌≤◌, ◌⊎◌, Bool, true, false, if◌then◌else◌, eqb, List, [], ◌∷◌, length, take, drop, Option, Some, None, Result, Ok, Err, refl, ap, ◌∙◌, arith, inl, inr, length-drop}
 use Rattle.std.specs.Option.{option_map}
 use Rattle.std.proofs.lemmas.Bool.{cases_lt, eqb-false}
 use Rattle.httparse.specs.Grammar.{RequestHead}
 use Rattle.gj_http.specs.Request.{Request}
 use Rattle.gj_http.specs.Heads.{IsHead, body_length, request_of}
-use Rattle.gj_http.specs.Cut.{empty_lines, window, close_of_head, head_end, head_length, head_bytes, after_head, BeginsWith, IsMessage, IsRefused, NeedsMore, Cuts}
+use Rattle.gj_http.specs.Cut.{empty_lines, window, close_of_head, head_end, head_length, head_bytes, after_head, IsMessage, IsRefused, NeedsMore, Cuts}
 use Rattle.gj_http.specs.declared.message.Refused.{Refused}
 use Rattle.gj_http.specs.declared.message.Refused.TheVariants.{Head, HeadLong}
 use Rattle.gj_http.proofs.DecideLemmas.{Settled, head_or_none}

@@ -1,5 +1,5 @@
 -- What was found at the front of the bytes, as the parts of the framer answer it.
-use Rattle.std.specs.Prelude.{◌≡◌, ◌⊎◌, ℕ, ◌≤◌, List, length, drop, Ok, Err}
+use Rattle.std.specs.Prelude.{◌≡◌, ◌⊎◌, ℕ, List, length, drop, Ok, Err}
 use Rattle.std.specs.Str.{IsUtf8}
 use Rattle.httparse.specs.Grammar.{RequestHead}
 use Rattle.httparse.specs.Spans.{IsWithin, span_bytes}

@@ -2,7 +2,7 @@
 use Rattle.std.specs.Prelude.{◌≡◌, ℕ, ◌≤◌, List, ⊤, drop}
 use Rattle.std.specs.Borrow.{follows_so, MutBor, Fml}
 use mathlib.Core.Option.{none}
-use Rattle.gj_http.specs.Request.{Request, request}
+use Rattle.gj_http.specs.Request.{request}
 use Rattle.gj_http.specs.Cut.{IsMessage, IsRefused, NeedsMore}
 use Rattle.gj_http.specs.Held.{Held}
 use Rattle.gj_http.specs.declared.front.Found.{Found}

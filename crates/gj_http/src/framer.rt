@@ -17,6 +17,9 @@ const ROOM: usize = 1_064_960;
 const READ: usize = 8192;
 
 /// Holds the bytes of one connection that are not handed out yet.
+///
+/// A byte of a head is looked at when it comes, and again when the message is whole; a body is not looked at. Bytes are
+/// moved only where the room for a read is missing, so at most once for each message.
 #[derive(Drop)]
 pub struct Framer {
     bytes: Vec<u8>,

@@ -1,6 +1,6 @@
-use Rattle.std.proofs.Common.{◌≡◌, ◌+◌, ◌<◌, ◌≤◌, arith, ap, drop, length, length-drop, sym, ◌∙◌}
+use Rattle.std.proofs.Common.{◌<◌, arith, ap, drop, length-drop, ◌∙◌}
 use Rattle.std.proofs.lemmas.List.{take_rest}
-use Rattle.gj_http.specs.Cut.{empty_line, empty_lines}
+use Rattle.gj_http.specs.Cut.{empty_line}
 use Rattle.gj_http.proofs.FrontLemmas.{empty_lines_none, empty_lines_step, empty_line-le-length}
 use Rattle.gj_http.proofs.front.empty_lines_at.Goals as goal
 

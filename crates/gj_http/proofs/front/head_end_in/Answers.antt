@@ -1,4 +1,4 @@
-use Rattle.std.proofs.Common.{◌≡◌, ◌<◌, arith, ap, sym, ◌∙◌, drop}
+use Rattle.std.proofs.Common.{◌≡◌, arith, ap, sym, ◌∙◌}
 use Rattle.std.proofs.lemmas.List.{take_rest}
 use Rattle.gj_http.specs.Cut.{close_of_head}
 use Rattle.gj_http.proofs.FrontLemmas.{head_end_step}

@@ -1,6 +1,6 @@
-use Rattle.std.proofs.Common.{◌≡◌, ℕ, take, drop, ap, ◌∙◌, arith, inl, sym, refl}
+use Rattle.std.proofs.Common.{◌≡◌, ℕ, take, ap, ◌∙◌, inl, sym, refl}
 use Rattle.std.proofs.lemmas.List.{take_min, take_rest}
-use Rattle.gj_http.specs.Cut.{empty_lines, window, head_end, head_length}
+use Rattle.gj_http.specs.Cut.{empty_lines, window, head_end}
 use Rattle.gj_http.proofs.FrontLemmas.{head_length_is}
 use Rattle.gj_http.proofs.HintLemmas.{wants_here, hint_seen, passed_seen, search_hint}
 use Rattle.gj_http.proofs.front.look.Goals as goal

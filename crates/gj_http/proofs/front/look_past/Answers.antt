@@ -1,6 +1,4 @@
-use Rattle.std.proofs.Common.{◌≡◌, ◌+◌, ◌-◌, ◌≤◌, Ok, arith, refl, sym, ap, ◌∙◌}
-use Rattle.gj_http.specs.Heads.{body_length}
-use Rattle.gj_http.specs.Cut.{empty_lines, window}
+use Rattle.std.proofs.Common.{◌≡◌, ◌+◌, ◌-◌, Ok, arith, refl, sym, ap, ◌∙◌}
 use Rattle.gj_http.proofs.BoundLemmas.{head_length-within, body_length-le}
 use Rattle.gj_http.proofs.FoundLemmas.{begins_with, refused_from_bad, needs_more_from_short, found_from_whole}
 use Rattle.gj_http.proofs.HintLemmas.{body_hint}

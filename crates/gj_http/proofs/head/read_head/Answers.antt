@@ -1,5 +1,4 @@
-use Rattle.std.proofs.Common.{◌≡◌, ℕ, ◌≤◌, length, arith}
-use Rattle.httparse.specs.Grammar.{RequestHead}
+use Rattle.std.proofs.Common.{arith}
 use Rattle.gj_http.specs.Heads.{IsHead}
 use Rattle.gj_http.proofs.HeadLemmas.{shows, few_fields, ok_shows, err_bad}
 use Rattle.gj_http.proofs.head.read_head.Goals as goal

@@ -1,5 +1,4 @@
 use Rattle.std.proofs.Common.{arith, refl}
-use Rattle.std.proofs.lemmas.Grind.{common_steps}
 use Rattle.gj_http.proofs.HintLemmas.{no_hint}
 use Rattle.gj_http.proofs.framer.Framer.new.Goals as goal
 
