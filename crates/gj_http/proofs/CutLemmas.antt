@@ -5,7 +5,7 @@ use Rattle.std.specs.List.{concat}
 use Rattle.gj_http.specs.Request.{Request}
 use Rattle.gj_http.specs.Heads.{IsHead, body_length, request_of}
 use Rattle.gj_http.specs.Cut.{head_length, head_bytes, IsMessage, IsRefused, NeedsMore, Cuts}
-use Rattle.gj_http.specs.Calls.{Call, Fed, Took, Wanted, Turned, fed, taken, Runs, Feeds}
+use Rattle.gj_http.specs.Calls.{Call, Fed, Took, Wanted, Turned, fed, taken, Runs, Feeds, Leaves}
 use Rattle.gj_http.specs.declared.message.Refused.{Refused}
 use Rattle.gj_http.proofs.BeginLemmas.{BeginsWith-unique, IsMessage-append, IsRefused-append, some_same}
 
@@ -153,3 +153,21 @@ fed_as_cut (piece ∷ pieces) held messages why rest feeds =
     let joined = subst (λ (b : List ℕ). Cuts b later why rest) (append_assoc left piece (concat pieces)) tail in
     subst (λ (m : List Request). Cuts (held ++ (piece ++ concat pieces)) m why rest) (sym feeds.6)
     (cut_goes_on first later held (piece ++ concat pieces) feeds.1 why left rest feeds.4 joined)
+
+pub Leaves-take : (messages : List Request) (bytes held : List ℕ) (request : Request) (rest : List ℕ)
+    → Leaves bytes messages held → IsMessage held request rest → Leaves bytes (messages ++ request ∷ []) rest
+Leaves-take [] bytes held request rest leaves is = (rest, (subst (λ (b : List ℕ). IsMessage b request rest) leaves is, refl))
+Leaves-take (first ∷ messages) bytes held request rest leaves is =
+    (leaves.0, (leaves.1.0, Leaves-take messages leaves.0 held request rest leaves.1.1 is))
+
+pub Leaves-feed : (messages : List Request) (bytes held piece : List ℕ)
+    → Leaves bytes messages held → Leaves (bytes ++ piece) messages (held ++ piece)
+Leaves-feed [] bytes held piece leaves = ap (λ (b : List ℕ). b ++ piece) leaves
+Leaves-feed (first ∷ messages) bytes held piece leaves =
+    (leaves.0 ++ piece, (IsMessage-append bytes piece first leaves.0 leaves.1.0, Leaves-feed messages leaves.0 held piece leaves.1.1))
+
+pub Leaves-cut : (messages : List Request) (bytes held : List ℕ) (later : List Request) (why : Option Refused) (rest : List ℕ)
+    → Leaves bytes messages held → Cuts held later why rest → Cuts bytes (messages ++ later) why rest
+Leaves-cut [] bytes held later why rest leaves cut = subst (λ (b : List ℕ). Cuts b later why rest) leaves cut
+Leaves-cut (first ∷ messages) bytes held later why rest leaves cut =
+    (leaves.0, (leaves.1.0, Leaves-cut messages leaves.0 held later why rest leaves.1.1 cut))

@@ -41,3 +41,8 @@ Feeds held [] messages refusal rest = Cuts held messages refusal rest
 Feeds held (piece ∷ pieces) messages refusal rest =
     (first : List Request) × (seen : Option Refused) × (left : List ℕ) × (later : List Request)
     × Cuts held first seen left × Feeds (left ++ piece) pieces later refusal rest × (messages ≡ first ++ later)
+
+-- the messages stand at the front in order, and after them the held bytes: what a loop over a framer keeps
+abbrev pub Leaves : List ℕ → List Request → List ℕ → Type 0
+Leaves bytes [] held = held ≡ bytes
+Leaves bytes (first ∷ messages) held = (rest : List ℕ) × (IsMessage bytes first rest × Leaves rest messages held)

@@ -1,10 +1,10 @@
 // The laws of cutting.
 
-ghost use Rattle.std.specs.Prelude.{◌≡◌, ◌⊎◌, ℕ, List, ◌++◌, Option, Some};
+ghost use Rattle.std.specs.Prelude.{◌≡◌, ◌⊎◌, ℕ, List, [], ◌∷◌, ◌++◌, Option, Some};
 ghost use Rattle.std.specs.List.{concat};
 ghost use Rattle.gj_http.specs.Request.{Request};
 ghost use Rattle.gj_http.specs.Cut.{IsMessage, IsRefused, NeedsMore, Cuts};
-ghost use Rattle.gj_http.specs.Calls.{Call, Feeds, Runs, fed, taken};
+ghost use Rattle.gj_http.specs.Calls.{Call, Feeds, Leaves, Runs, fed, taken};
 ghost use Rattle.gj_http.specs.declared.message.Refused.{Refused};
 
 /// At the front stands one message with one rest, or the bytes are refused for one cause, or they need more.
@@ -63,3 +63,15 @@ pub fn fed_as_cut()
     ensures { (held : List ℕ) (pieces : List (List ℕ)) (messages : List Request) (why : Option Refused) (rest : List ℕ)
         → Feeds held pieces messages why rest → Cuts (held ++ concat pieces) messages why rest }
 {}
+
+/// What a loop keeps that feeds a framer and takes its messages: the messages so far, and then what the framer holds, are
+/// the bytes that were fed.
+pub fn loop_keeps()
+    ensures none { (bytes : List ℕ) → Leaves bytes [] bytes }
+    ensures take { (bytes held rest : List ℕ) (messages : List Request) (request : Request)
+        → Leaves bytes messages held → IsMessage held request rest → Leaves bytes (messages ++ request ∷ []) rest }
+    ensures feed { (bytes held piece : List ℕ) (messages : List Request) → Leaves bytes messages held → Leaves (bytes ++ piece) messages (held ++ piece) }
+    ensures cut { (bytes held rest : List ℕ) (messages later : List Request) (why : Option Refused)
+        → Leaves bytes messages held → Cuts held later why rest → Cuts bytes (messages ++ later) why rest }
+{
+}

@@ -20,7 +20,8 @@ pub use fixed::fixed_response;
 pub use found::{Found, RouteError};
 pub use framer::Framer;
 pub use laws::{
-    beginnings, cut_goes_on, fed_as_cut, front_stays, one_cut, one_front, some_cut, taken_as_cut,
+    beginnings, cut_goes_on, fed_as_cut, front_stays, loop_keeps, one_cut, one_front, some_cut,
+    taken_as_cut,
 };
 pub use message::{Message, Method, Refused, Step};
 pub use responses::response;
