@@ -73,5 +73,4 @@ pub fn loop_keeps()
     ensures feed { (bytes held piece : List ℕ) (messages : List Request) → Leaves bytes messages held → Leaves (bytes ++ piece) messages (held ++ piece) }
     ensures cut { (bytes held rest : List ℕ) (messages later : List Request) (why : Option Refused)
         → Leaves bytes messages held → Cuts held later why rest → Cuts bytes (messages ++ later) why rest }
-{
-}
+{}

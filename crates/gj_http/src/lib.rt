@@ -30,4 +30,4 @@ pub use routes::Routes;
 #[cfg(test)]
 mod calls;
 #[cfg(test)]
-mod tests;
+mod framing_tests;
