@@ -15,6 +15,8 @@ mod message;
 mod options;
 mod responses;
 mod routes;
+#[cfg(test)]
+mod tests;
 
 pub use fixed::fixed_response;
 pub use found::{Found, RouteError};

@@ -12,6 +12,8 @@ mod pieces;
 mod reply;
 mod room;
 mod status;
+#[cfg(test)]
+mod tests;
 mod text;
 
 pub use edge::{EdgeList, EdgeOf};
