@@ -1,5 +1,5 @@
 use crate::{Name, Refusal, read_request};
-use gj_base::{Ask, ItemList, Kind, MAX_ID, Mask, Query, Route, SimAsk, SubAsk, WalkAsk};
+use gj_base::{Ask, ItemList, Kind, MAX_ID, Mask, Query, Route, SubAsk, WalkAsk};
 use std::alloc::Global;
 use std::process::Abort;
 use std::test::Fail;
@@ -18,9 +18,11 @@ fn subgraph_of(alloc: Global, body: &str) -> Option<SubAsk> {
     }
 }
 
-fn similar_of(alloc: Global, body: &str) -> Option<SimAsk> {
+fn similar_of(alloc: Global, body: &str) -> Option<(u64, u32, u64, u32, u64)> {
     match read_request(alloc, Route::Similar, None, body.as_bytes()) {
-        Ok(Ask::Query(Query::Sim(ask))) => Some(ask),
+        Ok(Ask::Query(Query::Sim(ask))) => Some((
+            ask.post, ask.steps, ask.seed, ask.top, ask.since,
+        )),
         _ => None,
     }
 }
@@ -458,10 +460,7 @@ fn a_similar_query_has_its_own_fields(rt: HostRuntime) -> Result<(), Fail> {
         );
     }
     let ask = similar_of(rt.alloc(), "{\"post\":10,\"steps\":1000}").ok_or("no similar query")?;
-    assert_eq!(rt;
-        (ask.post, ask.steps, ask.seed, ask.top, ask.since),
-        (10, 1000, 0, 10, 0)
-    );
+    assert_eq!(rt; ask, (10, 1000, 0, 10, 0));
     Ok(())
 }
 
