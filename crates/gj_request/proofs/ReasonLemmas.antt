@@ -1,5 +1,5 @@
 -- The definition never refuses for want of memory.
-use Rattle.std.proofs.Common.{◌≡◌, ℕ, Bool, true, false, cond, map, eqb, leb, ◌++◌, List, [], ◌∷◌, Option, Some, None, Result, Ok, Err, subst, refl}
+use Rattle.std.proofs.Common.{◌≡◌, ℕ, Bool, true, false, cond, map, eqb, leb, ◌++◌, List, [], ◌∷◌, Option, Some, None, Result, Ok, Err, subst}
 use Rattle.std.specs.Prelude.{◌&&◌, not, option_and_then}
 use Rattle.std.specs.List.{list_any}
 use Rattle.serde_json.specs.Data.{Data, no_items, item}

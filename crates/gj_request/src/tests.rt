@@ -19,11 +19,11 @@ fn subgraph_of(alloc: Global, body: &str) -> Option<SubAsk> {
 }
 
 fn similar_of(alloc: Global, body: &str) -> Option<(u64, u32, u64, u32, u64)> {
-    match read_request(alloc, Route::Similar, None, body.as_bytes()) {
-        Ok(Ask::Query(Query::Sim(ask))) => Some((
-            ask.post, ask.steps, ask.seed, ask.top, ask.since,
-        )),
-        _ => None,
+    let answer = read_request(alloc, Route::Similar, None, body.as_bytes());
+    if let Ok(Ask::Query(Query::Sim(ask))) = &answer {
+        Some((ask.post, ask.steps, ask.seed, ask.top, ask.since))
+    } else {
+        None
     }
 }
 
