@@ -4,3 +4,4 @@ pub mod KindLemmas
 pub mod NamesLemmas
 pub mod SeedLemmas
 pub mod TreeLemmas
+pub mod ReasonLemmas

@@ -13,7 +13,7 @@ both : (a b : Bool) → (a && b) ≡ true → (a ≡ true) × (b ≡ true)
 both true b e = (refl, e)
 both false b e = absurd (true≢false (sym e))
 
-not-true : (a : Bool) → not a ≡ true → a ≡ false
+pub not-true : (a : Bool) → not a ≡ true → a ≡ false
 not-true true e = absurd (true≢false (sym e))
 not-true false e = refl
 

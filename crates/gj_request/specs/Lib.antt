@@ -2,4 +2,5 @@ pub mod Forms
 pub mod Names
 pub mod Requests
 pub mod Results
+pub mod SeenIds
 pub mod Tables

@@ -1,15 +1,19 @@
 //! The values of fields, by their forms.
-ghost use Rattle.std.specs.Prelude.{◌≡◌, ◌+◌, ◌≤◌, IsTrue, [], IfOk, IfErr, OnOk, Ok, Err, length};
+ghost use Rattle.std.specs.Prelude.{◌≡◌, ℕ, ◌+◌, ◌≤◌, ◌==◌, ◌||◌, not, IsTrue, [], IfOk, IfErr, OnOk, Ok, Err, length};
+ghost use Rattle.std.specs.BTreeSet.{contains};
+ghost use Rattle.std.specs.Ordering.{nat_cmp};
 ghost use Rattle.serde_json.specs.View.{view, items_view};
 ghost use Rattle.gj_base.specs.Asks.{are_distinct, are_ids, AreSeeds};
 ghost use Rattle.gj_request.specs.Forms.{number_of, truth_of, kind_of, kinds_of, kinds_in, add_kind, array_of, ids_of, add_id, each};
+ghost use Rattle.gj_request.specs.SeenIds.{HasThese};
 ghost use Rattle.gj_request.specs.Results.{Refuses, Gives};
 
 use crate::name::Name;
 use crate::refusal::Refusal;
-use gj_base::{IdList, Kind, MAX_ID, MAX_SEEDS, Mask};
+use gj_base::{IdList, Kind, MAX_ID, MAX_SEEDS, Mask, Memory};
 use serde_json::Value;
 use std::alloc::Global;
+use std::collections::BTreeSet;
 
 /// A number from the least to the most.
 #[tactic(auto, unfolding(crate::specs::Forms::number_of))]
@@ -52,33 +56,53 @@ pub fn read_kind(name: Name, value: &Value) -> Result<Kind, Refusal>
     }
 }
 
-/// Puts one identifier more at the end, which must not be among the earlier ones.
+/// Puts one identifier more at the end, which must not be among the earlier ones; `seen` has the same identifiers.
 #[tactic(auto, unfolding(crate::specs::Forms::add_id))]
-fn push_id(ids: &mut IdList, name: Name, value: &Value) -> Result<(), Refusal>
+fn push_id(
+    ids: &mut IdList,
+    seen: &mut BTreeSet<u64>,
+    name: Name,
+    value: &Value,
+) -> Result<(), Refusal>
+    requires same { HasThese seen.old ids.old }
     ensures ok { OnOk result (add_id name ids.old (view value.now) ≡ Ok ids.new) }
     ensures refused { IfErr result (Refuses (add_id name ids.old (view value.now))) }
+    ensures same { OnOk result (HasThese seen.new ids.new) }
     ensures len { OnOk result (length ids.new ≡ length ids.old + 1) }
     ensures distinct { OnOk result (IsTrue (are_distinct ids.old) → IsTrue (are_distinct ids.new)) }
     ensures ids { OnOk result (IsTrue (are_ids ids.old) → IsTrue (are_ids ids.new)) }
 {
     let id = read_number(name, value, 0, MAX_ID)?;
-    if ids.as_slice().contains(&id) {
+    let is_new = insert_id(seen, id)?;
+    if !is_new {
         return Err(Refusal::Range(name));
     }
     ids.push(id)?;
     Ok(())
 }
 
-/// The identifiers of a list.
+/// Puts an identifier into a set, and says whether it was new there.
+fn insert_id(seen: &mut BTreeSet<u64>, id: u64) -> Result<bool, Memory>
+    ensures is_new { IfOk result (λ is_new. is_new ≡ not (contains nat_cmp seen.old id)) }
+    ensures others { OnOk result ((other : ℕ) → contains nat_cmp seen.new other ≡ (contains nat_cmp seen.old other || other == id)) }
+{
+    match seen.insert(id) {
+        Ok(is_new) => Ok(is_new),
+        Err(_) => Err(Memory),
+    }
+}
+
+/// The identifiers of a list. A repeated one is found in a set, so that n of them cost n log n steps.
 fn ids_in(alloc: Global, name: Name, list: &[Value]) -> Result<IdList, Refusal>
     ensures exact { Gives (each (add_id name) [] (items_view list.now)) result }
     ensures len { IfOk result (λ ids. length ids ≡ length list.now) }
     ensures distinct { IfOk result (λ ids. IsTrue (are_distinct ids)) }
     ensures ids { IfOk result (λ ids. IsTrue (are_ids ids)) }
 {
+    let mut seen = BTreeSet::new(alloc);
     let mut ids = IdList::with_capacity(alloc, list.len())?;
     for value in list {
-        push_id(&mut ids, name, value)?;
+        push_id(&mut ids, &mut seen, name, value)?;
     }
     Ok(ids)
 }

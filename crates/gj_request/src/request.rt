@@ -1,5 +1,5 @@
 //! What a request asks for.
-ghost use Rattle.std.specs.Prelude.{◌≡◌, ◌≤◌, IfOk, IfErr, Ok, Some, is_some, option_map};
+ghost use Rattle.std.specs.Prelude.{◌≡◌, ◌≤◌, IfOk, IfErr, Ok, Err, Some, is_some, option_map};
 ghost use Rattle.serde_json.specs.View.{view};
 ghost use Rattle.gj_request.specs.Requests.{tree_of, parsed, batch_of, walk_of, subgraph_of, similar_of, asked, has_id, IsAsked};
 ghost use Rattle.gj_request.specs.Results.{Refuses, Gives};
@@ -18,7 +18,7 @@ use std::alloc::Global;
 
 /// What a request asks for: by its route, the last part of its path where the route has an identifier, and its body,
 /// which is ignored for the routes without one. Takes memory for the body's tree and for the lists of the ask.
-#[tactic(auto, unfolding(crate::specs::Requests::asked))]
+#[tactic(auto, using(crate::proofs::ReasonLemmas::never_memory), unfolding(crate::specs::Requests::asked))]
 pub fn read_request(
     alloc: Global,
     route: Route,
@@ -31,6 +31,9 @@ pub fn read_request(
 
     // What every ask keeps, beside what its own type keeps.
     ensures in_range { IfOk result IsAsked }
+
+    // Want of memory is never what was to come.
+    ensures reasons { asked route (option_map (λ text. text.now) id.entry) body.now ≡ Err Refusal.Memory → ⊥ }
 {
     match route {
         Route::Interactions => read_batch(alloc, &parse(alloc, body)?),

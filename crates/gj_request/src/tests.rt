@@ -1,5 +1,5 @@
 use crate::{Name, Refusal, read_request};
-use gj_base::{Ask, ItemList, Kind, MAX_ID, Mask, Query, Route, SimAsk, SubAsk, WalkAsk};
+use gj_base::{Ask, ItemList, Kind, MAX_ID, Mask, Query, Route, SubAsk, WalkAsk};
 use std::alloc::Global;
 use std::process::Abort;
 use std::test::Fail;
@@ -18,10 +18,12 @@ fn subgraph_of(alloc: Global, body: &str) -> Option<SubAsk> {
     }
 }
 
-fn similar_of(alloc: Global, body: &str) -> Option<SimAsk> {
-    match read_request(alloc, Route::Similar, None, body.as_bytes()) {
-        Ok(Ask::Query(Query::Sim(ask))) => Some(ask),
-        _ => None,
+fn similar_of(alloc: Global, body: &str) -> Option<(u64, u32, u64, u32, u64)> {
+    let answer = read_request(alloc, Route::Similar, None, body.as_bytes());
+    if let Ok(Ask::Query(Query::Sim(ask))) = &answer {
+        Some((ask.post, ask.steps, ask.seed, ask.top, ask.since))
+    } else {
+        None
     }
 }
 
@@ -80,12 +82,12 @@ fn user_refusal(alloc: Global, id: &str) -> Option<Refusal> {
 }
 
 #[test]
-fn a_walk_is_refused_by_the_first_fault(rt: HostRuntime) {
+fn a_walk_is_an_object_with_known_names(rt: HostRuntime) {
     for (body, refusal) in [
         ("", Refusal::Json),
         ("{", Refusal::Json),
         ("{\"seeds\":[1],\"steps\":6}x", Refusal::Json),
-        ("{\"seeds\":[1],\"steps\":01}", Refusal::Json),
+        ("{\"steps\":01}", Refusal::Json),
         ("[]", Refusal::Field(Name::Body)),
         ("null", Refusal::Field(Name::Body)),
         ("{}", Refusal::Field(Name::Seeds)),
@@ -95,127 +97,97 @@ fn a_walk_is_refused_by_the_first_fault(rt: HostRuntime) {
             Refusal::Field(Name::Unknown),
         ),
         ("{\"seeds\":[],\"Steps\":6}", Refusal::Field(Name::Unknown)),
-        (
-            "{\"seeds\":[1],\"steps\":6,\"items\":[]}",
-            Refusal::Field(Name::Unknown),
-        ),
+        ("{\"seeds\":0,\"items\":[]}", Refusal::Field(Name::Unknown)),
         ("{\"steps\":6}", Refusal::Field(Name::Seeds)),
-        ("{\"seeds\":null,\"steps\":6}", Refusal::Field(Name::Seeds)),
-        ("{\"seeds\":1,\"steps\":6}", Refusal::Field(Name::Seeds)),
-        (
-            "{\"seeds\":[null],\"steps\":6}",
-            Refusal::Field(Name::Seeds),
-        ),
-        ("{\"seeds\":[-1],\"steps\":6}", Refusal::Field(Name::Seeds)),
-        ("{\"seeds\":[],\"steps\":6}", Refusal::Range(Name::Seeds)),
-        ("{\"seeds\":[1,1],\"steps\":6}", Refusal::Range(Name::Seeds)),
-        (
-            "{\"seeds\":[1,2,3,1],\"steps\":6}",
-            Refusal::Range(Name::Seeds),
-        ),
-        (
-            "{\"seeds\":[1,1,null],\"steps\":6}",
-            Refusal::Range(Name::Seeds),
-        ),
-        (
-            "{\"seeds\":[1,null,1],\"steps\":6}",
-            Refusal::Field(Name::Seeds),
-        ),
-        (
-            "{\"seeds\":[9223372036854775808],\"steps\":6}",
-            Refusal::Range(Name::Seeds),
-        ),
-        ("{\"seeds\":[],\"steps\":null}", Refusal::Range(Name::Seeds)),
         ("{\"seeds\":[1]}", Refusal::Field(Name::Steps)),
-        (
-            "{\"seeds\":[1],\"steps\":\"6\"}",
-            Refusal::Field(Name::Steps),
-        ),
-        ("{\"seeds\":[1],\"steps\":6.0}", Refusal::Field(Name::Steps)),
-        ("{\"seeds\":[1],\"steps\":1e2}", Refusal::Field(Name::Steps)),
-        ("{\"seeds\":[1],\"steps\":-1}", Refusal::Field(Name::Steps)),
-        (
-            "{\"seeds\":[1],\"steps\":null}",
-            Refusal::Field(Name::Steps),
-        ),
-        (
-            "{\"seeds\":[1],\"steps\":18446744073709551616}",
-            Refusal::Field(Name::Steps),
-        ),
-        (
-            "{\"seeds\":[1],\"steps\":18446744073709551615}",
-            Refusal::Range(Name::Steps),
-        ),
-        ("{\"seeds\":[1],\"steps\":0}", Refusal::Range(Name::Steps)),
-        (
-            "{\"seeds\":[1],\"steps\":100001}",
-            Refusal::Range(Name::Steps),
-        ),
-        (
-            "{\"seeds\":[1],\"steps\":6,\"seed\":18446744073709551616}",
-            Refusal::Field(Name::Seed),
-        ),
-        (
-            "{\"seeds\":[1],\"steps\":6,\"seed\":null}",
-            Refusal::Field(Name::Seed),
-        ),
-        (
-            "{\"seeds\":[1],\"steps\":6,\"kinds\":[]}",
-            Refusal::Range(Name::Kinds),
-        ),
-        (
-            "{\"seeds\":[1],\"steps\":6,\"kinds\":[\"like\"]}",
-            Refusal::Range(Name::Kinds),
-        ),
-        (
-            "{\"seeds\":[1],\"steps\":6,\"kinds\":[\"click\",\"clic\"]}",
-            Refusal::Range(Name::Kinds),
-        ),
-        (
-            "{\"seeds\":[1],\"steps\":6,\"kinds\":[\"clicks\"]}",
-            Refusal::Range(Name::Kinds),
-        ),
-        (
-            "{\"seeds\":[1],\"steps\":6,\"kinds\":[1]}",
-            Refusal::Field(Name::Kinds),
-        ),
-        (
-            "{\"seeds\":[1],\"steps\":6,\"kinds\":\"click\"}",
-            Refusal::Field(Name::Kinds),
-        ),
-        (
-            "{\"seeds\":[1],\"steps\":6,\"reset\":10001}",
-            Refusal::Range(Name::Reset),
-        ),
-        (
-            "{\"seeds\":[1],\"steps\":6,\"top\":0}",
-            Refusal::Range(Name::Top),
-        ),
-        (
-            "{\"seeds\":[1],\"steps\":6,\"top\":101}",
-            Refusal::Range(Name::Top),
-        ),
-        (
-            "{\"seeds\":[1],\"steps\":6,\"proof\":11}",
-            Refusal::Range(Name::Proof),
-        ),
-        (
-            "{\"seeds\":[1],\"steps\":6,\"hide\":1}",
-            Refusal::Field(Name::Hide),
-        ),
-        (
-            "{\"seeds\":[1],\"steps\":6,\"since\":281474976710657}",
-            Refusal::Range(Name::Since),
-        ),
-        (
-            "{\"seeds\":[1],\"steps\":6,\"since\":\"0\",\"top\":0}",
-            Refusal::Range(Name::Top),
-        ),
     ] {
         assert_eq!(rt;
             walk_refusal(rt.alloc(), body.as_bytes()),
             Some(refusal),
             "{body}"
+        );
+    }
+}
+
+#[test]
+fn seeds_are_tested_in_order_before_steps(rt: HostRuntime) {
+    for (seeds, refusal) in [
+        ("null", Refusal::Field(Name::Seeds)),
+        ("1", Refusal::Field(Name::Seeds)),
+        ("[null]", Refusal::Field(Name::Seeds)),
+        ("[-1]", Refusal::Field(Name::Seeds)),
+        ("[]", Refusal::Range(Name::Seeds)),
+        ("[1,1]", Refusal::Range(Name::Seeds)),
+        ("[1,2,3,1]", Refusal::Range(Name::Seeds)),
+        ("[1,1,null]", Refusal::Range(Name::Seeds)),
+        ("[1,null,1]", Refusal::Field(Name::Seeds)),
+        ("[9223372036854775808]", Refusal::Range(Name::Seeds)),
+        ("[1]", Refusal::Field(Name::Steps)),
+    ] {
+        let body = format!(in rt.alloc(); "{{\"seeds\":{seeds},\"steps\":null}}").expect(
+            &rt, "memory",
+        );
+        assert_eq!(rt;
+            walk_refusal(rt.alloc(), body.as_str().as_bytes()),
+            Some(refusal),
+            "{seeds}"
+        );
+    }
+}
+
+#[test]
+fn steps_are_a_whole_number_in_range(rt: HostRuntime) {
+    for (steps, refusal) in [
+        ("\"6\"", Refusal::Field(Name::Steps)),
+        ("6.0", Refusal::Field(Name::Steps)),
+        ("1e2", Refusal::Field(Name::Steps)),
+        ("-1", Refusal::Field(Name::Steps)),
+        ("null", Refusal::Field(Name::Steps)),
+        ("18446744073709551616", Refusal::Field(Name::Steps)),
+        ("18446744073709551615", Refusal::Range(Name::Steps)),
+        ("0", Refusal::Range(Name::Steps)),
+        ("100001", Refusal::Range(Name::Steps)),
+    ] {
+        let body = format!(in rt.alloc(); "{{\"seeds\":[1],\"steps\":{steps}}}").expect(
+            &rt, "memory",
+        );
+        assert_eq!(rt;
+            walk_refusal(rt.alloc(), body.as_str().as_bytes()),
+            Some(refusal),
+            "{steps}"
+        );
+    }
+}
+
+#[test]
+fn the_fields_of_a_walk_have_their_ranges(rt: HostRuntime) {
+    for (field, refusal) in [
+        ("\"seed\":18446744073709551616", Refusal::Field(Name::Seed)),
+        ("\"seed\":null", Refusal::Field(Name::Seed)),
+        ("\"kinds\":[]", Refusal::Range(Name::Kinds)),
+        ("\"kinds\":[\"like\"]", Refusal::Range(Name::Kinds)),
+        (
+            "\"kinds\":[\"click\",\"clic\"]",
+            Refusal::Range(Name::Kinds),
+        ),
+        ("\"kinds\":[\"clicks\"]", Refusal::Range(Name::Kinds)),
+        ("\"kinds\":[1]", Refusal::Field(Name::Kinds)),
+        ("\"kinds\":\"click\"", Refusal::Field(Name::Kinds)),
+        ("\"reset\":10001", Refusal::Range(Name::Reset)),
+        ("\"top\":0", Refusal::Range(Name::Top)),
+        ("\"top\":101", Refusal::Range(Name::Top)),
+        ("\"proof\":11", Refusal::Range(Name::Proof)),
+        ("\"hide\":1", Refusal::Field(Name::Hide)),
+        ("\"since\":281474976710657", Refusal::Range(Name::Since)),
+        ("\"since\":\"0\",\"top\":0", Refusal::Range(Name::Top)),
+    ] {
+        let body = format!(in rt.alloc(); "{{\"seeds\":[1],\"steps\":6,{field}}}").expect(
+            &rt, "memory",
+        );
+        assert_eq!(rt;
+            walk_refusal(rt.alloc(), body.as_str().as_bytes()),
+            Some(refusal),
+            "{field}"
         );
     }
 }
@@ -458,10 +430,7 @@ fn a_similar_query_has_its_own_fields(rt: HostRuntime) -> Result<(), Fail> {
         );
     }
     let ask = similar_of(rt.alloc(), "{\"post\":10,\"steps\":1000}").ok_or("no similar query")?;
-    assert_eq!(rt;
-        (ask.post, ask.steps, ask.seed, ask.top, ask.since),
-        (10, 1000, 0, 10, 0)
-    );
+    assert_eq!(rt; ask, (10, 1000, 0, 10, 0));
     Ok(())
 }
 

@@ -11,6 +11,7 @@ returns-in_err-push_id-clause-exact c =
 
 pub loop-value-preserved : goal.loop-value-preserved
 loop-value-preserved c = record {
+  same = c.in_ok-push_id.ensures.same;
   exact = each-ok (add_id c.args.name) c.loop-value.ids _ _ c.args.list.now c.loop-value.value-index c.value-item.result c.loop-value-test.true c.value-item.is c.loop-value.invariant.exact c.in_ok-push_id.ensures.ok;
   len = c.in_ok-push_id.ensures.len ∙ ap (λ n. n + 1) c.loop-value.invariant.len;
   distinct = c.in_ok-push_id.ensures.distinct c.loop-value.invariant.distinct;
