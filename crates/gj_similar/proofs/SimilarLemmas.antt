@@ -56,13 +56,14 @@ length-both items query (word ∷ words) =
     let rest = length-both items query words in
     let from : (state : State) → 2 * length (co_visited items query words state) ≤ length words + 1 = λ state. from_either items query words rest state in
     let first : 2 * length (co_visited items query words (from_post (end_picked (ends items side.Post query.post query.mask) word))) ≤ length words + 1 =
-        from (from_post (end_picked (ends items side.Post query.post query.mask) word)) in
-    let after : 2 * length (co_visited items query words Post) ≤ length words = rest.0 in
-    (omega arith,
-    λ user.
-        let shared : Option ℕ = shared_post query.post (end_picked (ends items side.User user query.mask) word) in
-        let one : length (shared_first shared (co_visited items query words Post)) ≤ length (co_visited items query words Post) + 1 = length-shared_first shared (co_visited items query words Post) in
-        omega arith)
+    from (from_post (end_picked (ends items side.Post query.post query.mask) word)) in
+    let after : 2 * length (co_visited items query words Post) ≤ length words = rest.0 in (
+      omega arith,
+      λ user.
+          let shared : Option ℕ = shared_post query.post (end_picked (ends items side.User user query.mask) word) in
+          let one : length (shared_first shared (co_visited items query words Post)) ≤ length (co_visited items query words Post) + 1 = length-shared_first shared (co_visited items query words Post) in
+          omega arith,
+    )
 
 pub length-co_visited : (items : List Item) (query : SimQuery) (words : List ℕ) → 2 * length (co_visited items query words Post) ≤ length words
 length-co_visited items query words = (length-both items query words).0
@@ -71,12 +72,12 @@ length-co_visited items query words = (length-both items query words).0
 All-counted : (P : ℕ → Type 0) (posts : List ℕ) (post : ℕ) → All P posts → 0 < count_by (λ x. x == post) posts → P post
 All-counted P [] post all some = absurd (omega arith)
 All-counted P (x ∷ xs) post all some =
-    let count : count_by (λ y. y == post) (x ∷ xs) ≡ cond (x == post) 1 0 + count_by (λ y. y == post) xs = sum_by-cons (λ y. cond (y == post) 1 0) x xs in
+    let count : count_by (λ y. y == post) (x ∷ xs) ≡ cond {A = ℕ} (x == post) 1 0 + count_by (λ y. y == post) xs = sum_by-cons (λ y. cond (y == post) 1 0) x xs in
     ⊎_elim
     (λ (is : x ≡ post). subst P is (all 0 x (omega arith)))
     (λ (apart : x ≡ post → ⊥).
-        let none : cond (x == post) 1 0 ≡ 0 = cond-false (x == post) 1 0 (ne_eqb x post apart) in
-        All-counted P xs post (λ k d lt. all (suc k) d (omega arith)) (omega arith))
+    let none : cond {A = ℕ} (x == post) 1 0 ≡ 0 = cond-false (x == post) 1 0 (ne_eqb x post apart) in
+    All-counted P xs post (λ k d lt. all (suc k) d (omega arith)) (omega arith))
     (cases_eq x post)
 
 -- a tally of few posts that have ends may be scored
@@ -87,9 +88,9 @@ scorable items mask posts (Err e) few back is = tt
 scorable items mask posts (Ok shared) few back is =
     let Holds : List (ℕ × ℕ) → Type 0 = AreScorable items mask in
     subst Holds (sym is) (λ k d lt.
-        let pair : ℕ × ℕ = get_or (tally posts) k d in
-        let number : number_at (tally posts) pair.0 ≡ pair.1 = number_at-pair (tally posts) (is_tally-tally posts) k d lt in
-        let count : number_at (tally posts) pair.0 ≡ count_by (λ x. x == pair.0) posts = number_at-tally posts pair.0 in
-        let most : count_by (λ x. x == pair.0) posts ≤ length posts = count_by-le-length (λ x. x == pair.0) posts in
-        let some : 0 < pair.1 = All-positive (tally posts) (is_tally-tally posts) k d lt in
-        (omega arith, All-counted (λ post. 0 < length (ends items side.Post post mask)) posts pair.0 back (omega arith)))
+    let pair : ℕ × ℕ = get_or (tally posts) k d in
+    let number : number_at (tally posts) pair.0 ≡ pair.1 = number_at-pair (tally posts) (is_tally-tally posts) k d lt in
+    let count : number_at (tally posts) pair.0 ≡ count_by (λ x. x == pair.0) posts = number_at-tally posts pair.0 in
+    let most : count_by (λ x. x == pair.0) posts ≤ length posts = count_by-le-length (λ x. x == pair.0) posts in
+    let some : 0 < pair.1 = All-positive (tally posts) (is_tally-tally posts) k d lt in
+    (omega arith, All-counted (λ post. 0 < length (ends items side.Post post mask)) posts pair.0 back (omega arith)))

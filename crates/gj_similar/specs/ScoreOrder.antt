@@ -49,8 +49,8 @@ cross_trans n d m e l f d_pos e_pos f_pos first second =
     ⊎_elim
     (λ (lt : l * d < n * f). nat_cmp_less (l * d) (n * f) lt)
     (λ (ge : n * f ≤ l * d).
-        let most : e * (n * f) ≤ e * (l * d) = mul-le-mul_left e ge in
-        absurd (omega arith))
+    let most : e * (n * f) ≤ e * (l * d) = mul-le-mul_left e ge in
+    absurd (omega arith))
     (cases_lt (l * d) (n * f))
 
 cross_congr : (n d m e l f : ℕ) → 0 < d → 0 < e → cross n d m e ≡ Equal → cross n d l f ≡ cross m e l f
@@ -66,10 +66,10 @@ one_at_least d = omega arith
 
 fraction_total : IsTotalOrder fraction_cmp
 fraction_total = record {
-    antisymm = λ a b. nat_cmp_total.antisymm (b.co * b.co * max 1 a.degree) (a.co * a.co * max 1 b.degree);
-    trans = λ a b c. cross_trans (a.co * a.co) (max 1 a.degree) (b.co * b.co) (max 1 b.degree) (c.co * c.co) (max 1 c.degree) (one_at_least a.degree) (one_at_least b.degree) (one_at_least c.degree);
-    congr = λ a b c. cross_congr (a.co * a.co) (max 1 a.degree) (b.co * b.co) (max 1 b.degree) (c.co * c.co) (max 1 c.degree) (one_at_least a.degree) (one_at_least b.degree);
-  }
+  antisymm = λ a b. nat_cmp_total.antisymm (b.co * b.co * max 1 a.degree) (a.co * a.co * max 1 b.degree);
+  trans = λ a b c. cross_trans (a.co * a.co) (max 1 a.degree) (b.co * b.co) (max 1 b.degree) (c.co * c.co) (max 1 c.degree) (one_at_least a.degree) (one_at_least b.degree) (one_at_least c.degree);
+  congr = λ a b c. cross_congr (a.co * a.co) (max 1 a.degree) (b.co * b.co) (max 1 b.degree) (c.co * c.co) (max 1 c.degree) (one_at_least a.degree) (one_at_least b.degree);
+}
 
 -- scores are in a total order
 pub score_total : IsTotalOrder score_cmp
@@ -96,17 +96,17 @@ pub score_ties : (a b : Scored) → ((a.co == b.co) && ((a.degree == b.degree) &
 score_ties a b =
     both_ways ((a.co == b.co) && ((a.degree == b.degree) && (a.post == b.post))) (is_eq (score_cmp a b))
     (λ fields.
-        let p = and_parts (a.co == b.co) ((a.degree == b.degree) && (a.post == b.post)) fields in
-        let q = and_parts (a.degree == b.degree) (a.post == b.post) p.1 in
-        let co : a.co ≡ b.co = eqb-true a.co b.co p.0 in
-        let degree : a.degree ≡ b.degree = eqb-true a.degree b.degree q.0 in
-        let post : a.post ≡ b.post = eqb-true a.post b.post q.1 in
-        let same : a ≡ b = λ i. record { co = co i; degree = degree i; post = post i } in
-        ap (λ (s : Scored). is_eq (score_cmp a s)) (sym same) ∙ ap is_eq (tied_itself score_total a))
+    let p = and_parts (a.co == b.co) ((a.degree == b.degree) && (a.post == b.post)) fields in
+    let q = and_parts (a.degree == b.degree) (a.post == b.post) p.1 in
+    let co : a.co ≡ b.co = eqb-true a.co b.co p.0 in
+    let degree : a.degree ≡ b.degree = eqb-true a.degree b.degree q.0 in
+    let post : a.post ≡ b.post = eqb-true a.post b.post q.1 in
+    let same : a ≡ b = λ i. record { co = co i; degree = degree i; post = post i } in
+    ap (λ (s : Scored). is_eq (score_cmp a s)) (sym same) ∙ ap is_eq (tied_itself score_total a))
     (λ tied.
-        let same : a ≡ b = score_exact a b ((Equal-is (score_cmp a b)).0 tied) in
-        and_from (a.co == b.co) ((a.degree == b.degree) && (a.post == b.post)) (eq-eqb a.co b.co (ap (λ (s : Scored). s.co) same))
-        (and_from (a.degree == b.degree) (a.post == b.post) (eq-eqb a.degree b.degree (ap (λ (s : Scored). s.degree) same)) (eq-eqb a.post b.post (ap (λ (s : Scored). s.post) same))))
+    let same : a ≡ b = score_exact a b ((Equal-is (score_cmp a b)).0 tied) in
+    and_from (a.co == b.co) ((a.degree == b.degree) && (a.post == b.post)) (eq-eqb a.co b.co (ap (λ (s : Scored). s.co) same))
+    (and_from (a.degree == b.degree) (a.post == b.post) (eq-eqb a.degree b.degree (ap (λ (s : Scored). s.degree) same)) (eq-eqb a.post b.post (ap (λ (s : Scored). s.post) same))))
 
 pub score_partial : IsPartialOrder (λ (a b : Scored). (a.co == b.co) && ((a.degree == b.degree) && (a.post == b.post))) (as_partial_cmp score_cmp)
 score_partial = po score_total score_ties

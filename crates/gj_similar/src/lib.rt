@@ -4,10 +4,12 @@
 //! memory for the co-visits, and `order_scores` for the best scores alone.
 #![tactic(auto)]
 
+mod order;
 mod score;
 mod state;
 mod steps;
 
+pub use order::order_scores;
 pub use score::{Score, ScoreList};
 pub use state::State;
 pub use steps::{Shared, similar};

@@ -1,5 +1,5 @@
 //! The steps from a post to its users and on.
-ghost use Rattle.std.specs.Prelude.{◌≡◌, ◌<◌, [], ◌++◌, length, All, IfOk, OnOk, IfSome};
+ghost use Rattle.std.specs.Prelude.{◌≡◌, ◌<◌, ◌≤◌, [], ◌++◌, length, All, IfOk, OnOk, IfSome};
 ghost use Rattle.gj_base.specs.Draw.{words, after};
 ghost use Rattle.gj_base.specs.Ends.{ends};
 ghost use Rattle.gj_similar.specs.declared.state.State.TheVariants.{Post};
@@ -57,6 +57,7 @@ fn shared_posts<G: Graph, R: NextWord<u64>>(
     ensures ok { IfOk result (λ posts. posts.items ≡ co_visited (G.shown graph.now).items ask.now (words R.step ask.now.steps generator.old) Post) }
     ensures further { OnOk result (generator.new ≡ after R.step ask.now.steps generator.old) }
     ensures back { IfOk result (λ posts. All (λ post. 0 < length (ends (G.shown graph.now).items Side.Post post ask.now.mask)) posts.items) }
+    ensures few { IfOk result (λ posts. length posts.items ≤ 50000) }
 {
     let mut posts = Vec::new(alloc);
     // Every other step shares a post at most.

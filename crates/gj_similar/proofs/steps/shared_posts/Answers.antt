@@ -1,13 +1,14 @@
-use Rattle.std.proofs.Common.{◌≡◌, ℕ, ◌+◌, ◌-◌, ◌<◌, ◌≤◌, ◌∙◌, List, ◌++◌, length, sym, ap, arith}
+use Rattle.std.proofs.Common.{◌≡◌, ℕ, ◌+◌, ◌*◌, ◌-◌, ◌<◌, ◌≤◌, ◌∙◌, List, ◌++◌, length, sym, ap, arith}
 use Rattle.std.proofs.lemmas.List.{append-nil}
 use Rattle.std.proofs.lemmas.List.Elements.{All-append}
 use Rattle.gj_base.specs.declared.side.Side.TheVariants as side
 use Rattle.gj_base.specs.Ends.{ends}
 use Rattle.gj_base.specs.Asks.{SimQuery}
 use Rattle.gj_base.specs.Draw.{words}
-use Rattle.gj_base.proofs.DrawLemmas.{words_one, after_one, words_none, after_none}
+use Rattle.gj_base.proofs.DrawLemmas.{words_one, after_one, words_none, after_none, length-words}
+use Rattle.gj_similar.specs.declared.state.State.TheVariants.{Post}
 use Rattle.gj_similar.specs.Similar.{co_visited}
-use Rattle.gj_similar.proofs.SimilarLemmas.{co_visited_none, co_visited_one, All-shared_first}
+use Rattle.gj_similar.proofs.SimilarLemmas.{co_visited_none, co_visited_one, All-shared_first, length-co_visited}
 use Rattle.gj_similar.proofs.steps.shared_posts.Goals as goal
 
 pub loop-preserved : goal.loop-preserved
@@ -50,3 +51,16 @@ returns-clause-further g c =
     let test = c.loop-test.false in
     let all : query.steps ≤ c.loop.counter = omega arith in
     sym (after_none step query.steps c.loop.counter c.loop.generator all) ∙ c.loop.invariant.further
+
+pub returns-clause-few : goal.returns-clause-few
+returns-clause-few g c =
+    let items = (g.G.Graph.shown c.args.graph.now).items in
+    let query : SimQuery = c.args.ask.now in
+    let step = g.R.NextWord.step in
+    let same : c.ask.inside.steps ≡ query.steps = ap (λ (q : SimQuery). q.steps) c.ask.view_is in
+    let high : c.ask.inside.steps ≤ 100000 = c.ask.invariant.steps_high in
+    let drawn : List ℕ = words step query.steps c.args.generator.now in
+    let count : length drawn ≡ query.steps = length-words step query.steps c.args.generator.now in
+    let most : 2 * length (co_visited items query drawn Post) ≤ length drawn = length-co_visited items query drawn in
+    let posts : length c.loop.posts.items ≡ length (co_visited items query drawn Post) = ap length (returns-clause-ok g c) in
+    omega arith

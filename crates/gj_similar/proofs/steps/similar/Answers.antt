@@ -1,11 +1,6 @@
-use Rattle.std.proofs.Common.{◌≡◌, ℕ, ◌*◌, ◌≤◌, List, length, ap, arith}
-use Rattle.gj_base.specs.Asks.{SimQuery}
-use Rattle.gj_base.specs.Draw.{words}
-use Rattle.gj_base.proofs.DrawLemmas.{length-words}
-use Rattle.gj_similar.specs.Similar.{co_visited}
-use Rattle.gj_similar.specs.declared.state.State.TheVariants.{Post}
-use Rattle.gj_similar.proofs.SimilarLemmas.{length-co_visited, scorable}
+use Rattle.gj_similar.proofs.SimilarLemmas.{scorable}
 use Rattle.gj_similar.proofs.steps.similar.Goals as goal
 
 pub returns-clause-scorable : goal.returns-clause-scorable
-returns-clause-scorable g c = ?
+returns-clause-scorable g c =
+    scorable (g.G.Graph.shown c.args.graph.now).items c.args.ask.now.mask c.in_ok-posts.posts.items c.of_posts.result c.in_ok-posts.ensures.few c.in_ok-posts.ensures.back c.of_posts.ensures
