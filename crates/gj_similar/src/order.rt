@@ -1,6 +1,7 @@
 //! The best scores of shared posts.
 ghost use Rattle.std.specs.Prelude.{◌≡◌, ◌<◌, ◌≤◌, length, take, IfOk, OnOk};
 ghost use Rattle.std.specs.BTreeSet.{insert_key, btree_set_len};
+ghost use Rattle.std.specs.List.Sorted.{IsStrictlySortedBy};
 ghost use Rattle.gj_base.specs.Ends.{ends};
 ghost use Rattle.gj_similar.specs.Scored.{score_cmp};
 ghost use Rattle.gj_similar.specs.Similar.{score_at, best_scores, AreScorable};
@@ -38,10 +39,11 @@ fn keep_best(best: &mut BTreeSet<Score>, score: Score, top: usize) -> Result<(),
 
 /// The scores as a list.
 fn list_of(alloc: Global, best: &BTreeSet<Score>) -> Result<ScoreList, Memory>
-    ensures { IfOk result (λ scores. scores ≡ best.now.keys) }
+    ensures exact { IfOk result (λ scores. scores ≡ best.now.keys) }
+    ensures ordered { IfOk result (λ scores. IsStrictlySortedBy score_cmp scores) }
 {
     let mut scores = ScoreList::new(alloc);
-    for score in best {
+    for score in best.iter() {
         scores.push(*score)?;
     }
     Ok(scores)
@@ -57,7 +59,8 @@ pub fn order_scores<G: Graph>(
     top: u32,
 ) -> Result<ScoreList, Memory>
     requires { AreScorable (G.shown graph.now).items mask shared.now }
-    ensures { IfOk result (λ scores. scores ≡ best_scores (G.shown graph.now).items mask top shared.now) }
+    ensures ok { IfOk result (λ scores. scores ≡ best_scores (G.shown graph.now).items mask top shared.now) }
+    ensures ordered { IfOk result (λ scores. IsStrictlySortedBy score_cmp scores) }
 {
     let mut best = BTreeSet::new(alloc);
     for (post, co) in shared.pairs() {

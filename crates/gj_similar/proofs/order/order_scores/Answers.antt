@@ -56,9 +56,9 @@ loop-post-preserved g c =
       above = λ k d lt. above (suc k) d (omega arith);
     }
 
-pub returns : goal.returns
+pub returns-clause-ok : goal.returns-clause-ok
 unfolding best_scores
-returns g c =
+returns-clause-ok g c =
     let items = (g.G.Graph.shown c.args.graph.now).items in
     let top : ℕ = c.args.top in
     let keys : List Scored = c.loop-post.best.keys in
@@ -67,4 +67,4 @@ returns g c =
     let all : keys ≡ take top keys = sym (take_all top keys c.loop-post.invariant.few) in
     let done : keys ≡ best_scores items c.args.mask top c.args.shared.now =
     all ∙ (ap (λ (ps : List (ℕ × ℕ)). take top (fold (insert_key score_cmp) keys (map (score_at items c.args.mask) ps))) (sym none) ∙ c.loop-post.invariant.best) in
-    subst Holds done c.list_of.ensures
+    subst Holds done c.list_of.ensures.exact
