@@ -1,6 +1,6 @@
 -- A similarity query, step by step.
-use Rattle.std.proofs.Common.{◌≡◌, ℕ, ◌+◌, ◌*◌, ◌<◌, ◌≤◌, ◌==◌, ◌∙◌, Bool, true, false, cond, List, [], ◌∷◌, ◌++◌, length, get_or, count_by, All, Option, None, Some, IfSome, Result, Ok, Err, IfOk, zero, suc, subst, refl, sym, ap, append_assoc, arith, ⊎_elim}
-use Rattle.std.proofs.lemmas.Bool.{cases_eq, eq-eqb, ne_eqb, cond-true, cond-false}
+use Rattle.std.proofs.Common.{◌≡◌, ℕ, ◌+◌, ◌*◌, ◌<◌, ◌≤◌, ◌==◌, ◌∙◌, cond, List, [], ◌∷◌, ◌++◌, length, get_or, count_by, All, Option, None, Some, IfSome, Result, Ok, Err, IfOk, suc, subst, refl, sym, ap, append_assoc, arith, ⊎_elim}
+use Rattle.std.proofs.lemmas.Bool.{cases_eq, ne_eqb, cond-false}
 use Rattle.std.proofs.lemmas.List.Elements.{All-cons}
 use Rattle.std.proofs.lemmas.List.Sums.{sum_by-cons, count_by-le-length}
 use Rattle.gj_base.specs.declared.item.Item.{Item}

@@ -1,5 +1,5 @@
 -- The order of scores is lawful.
-use Rattle.std.proofs.Common.{◌≡◌, ℕ, ◌+◌, ◌*◌, ◌<◌, ◌≤◌, ◌==◌, ◌∙◌, max, Bool, true, false, ◌&&◌, refl, sym, ap, arith, ⊎_elim, mul-le-mul_left}
+use Rattle.std.proofs.Common.{◌≡◌, ℕ, ◌+◌, ◌*◌, ◌<◌, ◌≤◌, ◌==◌, ◌∙◌, max, ◌&&◌, refl, sym, ap, arith, ⊎_elim, mul-le-mul_left}
 use Rattle.std.specs.declared.cmp.Ordering.{Ordering}
 use Rattle.std.specs.declared.cmp.Ordering.TheVariants.{Less, Equal, Greater}
 use Rattle.std.specs.Ordering.{nat_cmp, on, flip_args, then_cmp, ordering_then, is_eq, eq_by_cmp, as_partial_cmp}

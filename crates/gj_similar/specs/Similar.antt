@@ -1,5 +1,5 @@
 -- Posts that share users with a post, by random walks of two steps. Own: one word a step, and no co-visit of the post itself.
-use Rattle.std.specs.Prelude.{◌≡◌, ℕ, ◌<◌, ◌≤◌, ◌==◌, Bool, true, false, if◌then◌else◌, List, [], ◌∷◌, length, take, map, fold, All, Option, Some, None}
+use Rattle.std.specs.Prelude.{ℕ, ◌<◌, ◌≤◌, ◌==◌, if◌then◌else◌, List, [], ◌∷◌, length, take, map, fold, All, Option, Some, None}
 use Rattle.std.specs.BTreeSet.{insert_key}
 use Rattle.gj_base.specs.declared.item.Item.{Item}
 use Rattle.gj_base.specs.declared.side.Side.TheVariants as side
