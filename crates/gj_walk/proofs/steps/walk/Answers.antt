@@ -1,4 +1,4 @@
-use Rattle.std.proofs.Common.{◌≡◌, ℕ, ◌≤◌, ◌∙◌, List, length, ap, arith}
+use Rattle.std.proofs.Common.{◌≡◌, ℕ, ◌≤◌, List, length, ap, arith}
 use Rattle.gj_base.specs.Asks.{WalkQuery}
 use Rattle.gj_base.specs.Draw.{words}
 use Rattle.gj_base.proofs.DrawLemmas.{length-words}
