@@ -5,5 +5,8 @@
 #![tactic(auto)]
 
 mod masses;
+mod number;
+mod step;
+mod vertices;
 
 pub use masses::{Masses, subgraph};
