@@ -1,3 +1,4 @@
 pub mod CountLemmas
 pub mod LawLemmas
 pub mod NumberLemmas
+pub mod StepLemmas

@@ -103,7 +103,7 @@ placed_push xs names places id n h l e = record {
 
 -- one more edge at the vertex with number p
 
-told_bit : (names : List ℕ) (p u : ℕ) → Distinct names → p < length names → u < length names
+pub told_bit : (names : List ℕ) (p u : ℕ) → Distinct names → p < length names → u < length names
     → nat_eq (get_or names p 0) (get_or names u 0) ≡ nat_eq p u
 told_bit names p u h l m = told_case (nat_eq p u) refl
   where
