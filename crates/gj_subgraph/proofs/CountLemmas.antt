@@ -65,7 +65,7 @@ stands_push : (xs : List ℕ) (w v : ℕ) → stands_in (xs ++ w ∷ []) v ≡ (
 stands_push xs w v = list_any-append (λ id. nat_eq id v) xs (w ∷ []) ∙ ap (λ b. stands_in xs v || b) (or-false (nat_eq w v))
 
 -- the vertices of a side stand in it
-vertices_from : (P : ℕ → Type 0) (side done : List ℕ) → Every P done → Every P side → Every P (fold with_vertex done side)
+pub vertices_from : (P : ℕ → Type 0) (side done : List ℕ) → Every P done → Every P side → Every P (fold with_vertex done side)
 vertices_from P [] done h g = h
 vertices_from P (x ∷ side) done h g =
     elim (stands_in done x) as (λ b. Every P (fold with_vertex (cond b done (done ++ x ∷ [])) side))

@@ -42,11 +42,11 @@ own_units units near v h = let all = own_part units near [] near v in omega (ari
 
 -- each edge arrives at one vertex
 
-sum_same : (f g : ℕ → ℕ) (vs : List ℕ) → Every (λ v. f v ≡ g v) vs → sum_by f vs ≡ sum_by g vs
+pub sum_same : (f g : ℕ → ℕ) (vs : List ℕ) → Every (λ v. f v ≡ g v) vs → sum_by f vs ≡ sum_by g vs
 sum_same f g [] h = refl
 sum_same f g (v ∷ vs) h = sum_by-cons f v vs ∙ (rw (h.0, sum_same f g vs h.1) refl) ∙ sym (sum_by-cons g v vs)
 
-sum_plus : (f g : ℕ → ℕ) (vs : List ℕ) → sum_by (λ v. f v + g v) vs ≡ sum_by f vs + sum_by g vs
+pub sum_plus : (f g : ℕ → ℕ) (vs : List ℕ) → sum_by (λ v. f v + g v) vs ≡ sum_by f vs + sum_by g vs
 sum_plus f g [] = omega arith
 sum_plus f g (v ∷ vs) =
     let a = sum_by-cons (λ v. f v + g v) v vs in
@@ -55,7 +55,7 @@ sum_plus f g (v ∷ vs) =
     let d = sum_plus f g vs in
     omega (arith, a, b, c, d)
 
-sum_pick : (id load : ℕ) (vs : List ℕ) → sum_by (λ v. cond (nat_eq id v) load 0) vs ≡ count_of vs id * load
+pub sum_pick : (id load : ℕ) (vs : List ℕ) → sum_by (λ v. cond (nat_eq id v) load 0) vs ≡ count_of vs id * load
 sum_pick id load [] = omega arith
 sum_pick id load (v ∷ vs) =
     let a = sum_by-cons (λ v. cond (nat_eq id v) load 0) v vs in

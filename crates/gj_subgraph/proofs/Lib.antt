@@ -2,3 +2,4 @@ pub mod CountLemmas
 pub mod LawLemmas
 pub mod NumberLemmas
 pub mod StepLemmas
+pub mod MassLemmas

@@ -305,3 +305,45 @@ kept_sum near far near_names far_names array out e f l m same g =
     sym (units_sum far_names out (λ v. rw f (vertices_distinct far v)) m) ∙ ap (λ h. sum_by h far_names) g
         ∙ ap (λ vs. sum_by (half_step near far (units_in near_names array)) vs) f ∙ step_sum near far (units_in near_names array) same
         ∙ ap (λ vs. sum_by (units_in near_names array) vs) (sym e) ∙ units_sum near_names array (λ v. rw e (vertices_distinct near v)) l
+
+every_at : (P : ℕ → Type 0) (xs : List ℕ) (u : ℕ) → Every P xs → u < length xs → P (get_or xs u 0)
+every_at P [] u h l = absurd (omega arith)
+every_at P (x ∷ xs) zero h l = h.0
+every_at P (x ∷ xs) (suc u) h l = every_at P xs u h.1 (omega arith)
+
+-- each vertex has an edge
+pub degree_above : (side names degrees : List ℕ) (u : ℕ) → names ≡ vertices side → AreDegrees side names degrees → u < length names → 0 < get_or degrees u 0
+degree_above side names degrees u e d l =
+    let stands = every_at (λ v. stands_in side v ≡ true) (vertices side) u (vertices_stand side) (rw (← e) l) in
+    let one = count_stands side (get_or (vertices side) u 0) stands in
+    let two = d.counted u l in
+    let three : count_of side (get_or names u 0) ≡ count_of side (get_or (vertices side) u 0) = ap (λ vs. count_of side (get_or vs u 0)) e in
+    omega (arith, one, two, three)
+
+pub more_named : (side names degrees units more : List ℕ) → names ≡ vertices side → AreDegrees side names degrees → length units ≡ length names
+    → ((u : ℕ) → u < length units → get_or more u 0 ≡ get_or units u 0 % get_or degrees u 0) → (u : ℕ) → u < length names
+    → get_or more u 0 ≡ units_in names units (get_or names u 0) % count_of side (get_or names u 0)
+more_named side names degrees units more e d l f u m =
+    let one = f u (rw l m) in
+    let two = units_at names units u (λ v. rw e (vertices_distinct side v)) l m in
+    let three = d.counted u m in
+    one ∙ rw (two, ← three) refl
+
+pub part_named : (side names degrees units parts : List ℕ) → names ≡ vertices side → AreDegrees side names degrees → length units ≡ length names
+    → ((u : ℕ) → u < length units → get_or parts u 0 ≡ get_or units u 0 / get_or degrees u 0) → (u : ℕ) → u < length names
+    → get_or parts u 0 ≡ units_in names units (get_or names u 0) / count_of side (get_or names u 0)
+part_named side names degrees units parts e d l f u m =
+    let one = f u (rw l m) in
+    let two = units_at names units u (λ v. rw e (vertices_distinct side v)) l m in
+    let three = d.counted u m in
+    one ∙ rw (two, ← three) refl
+
+pub next_part : (near far names far_names degrees places units parts more out : List ℕ) (k part : ℕ)
+    → names ≡ vertices near → AreDegrees near names degrees → ArePlaced near names places → length units ≡ length names
+    → ((u : ℕ) → u < length units → get_or parts u 0 ≡ get_or units u 0 / get_or degrees u 0)
+    → Stepped near far names far_names (units_in names units) k more out → k < length near
+    → part ≡ get_or parts (get_or places k 0) 0 + min (get_or more (get_or places k 0) 0) 1
+    → part ≡ carried (units_in names units) near (take k near) (get_or near k 0)
+next_part near far names far_names degrees places units parts more out k part e d p l f s inside is =
+    is ∙ part_of near far names far_names (units_in names units) k more out (get_or places k 0) (get_or parts (get_or places k 0) 0) s
+        (p.in_range k inside) (p.named k inside) (part_named near names degrees units parts e d l f (get_or places k 0) (p.in_range k inside))

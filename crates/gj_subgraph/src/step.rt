@@ -60,11 +60,13 @@ pub fn half_step(
         ≡ half_step near.now.side.items far.now.side.items (units_in near.now.names.items units.now)) }
     ensures kept { IfOk result (λ out. sum out.items ≡ sum units.now) }
 {
-    let (parts, mut more) = parts_of(alloc, &near.degrees, units)?;
+    let (parts, mut more) = parts_of(alloc, near.degrees.as_slice(), units)?;
     let mut out = zeros(alloc, far.names.len())?;
-    for k in 0..near.places.len() {
-        let part = take_part(&parts, &mut more, near.places[k]);
-        add(&mut out, far.places[k], part);
+    let from = near.places.as_slice();
+    let to = far.places.as_slice();
+    for k in 0..from.len() {
+        let part = take_part(parts.as_slice(), &mut more, from[k]);
+        add(&mut out, to[k], part);
     }
     Ok(out)
 }
