@@ -48,9 +48,10 @@ or_true false = refl
 -- each element stands in the list
 stands_self : (xs : List ℕ) → Every (λ v. stands_in xs v ≡ true) xs
 stands_self [] = tt
-stands_self (x ∷ xs) =
-    (rw (eqb_self x) refl,
-        every_weaker (λ v. stands_in xs v ≡ true) (λ v. stands_in (x ∷ xs) v ≡ true) (λ v h. rw h (or_true (nat_eq x v))) xs (stands_self xs))
+stands_self (x ∷ xs) = (
+  rw (eqb_self x) refl,
+  every_weaker (λ v. stands_in xs v ≡ true) (λ v. stands_in (x ∷ xs) v ≡ true) (λ v h. rw h (or_true (nat_eq x v))) xs (stands_self xs),
+)
 
 count_case : (b : Bool) (n : ℕ) (xs : List ℕ) (v : ℕ) → n ≡ bit b + count_of xs v → (b || stands_in xs v) ≡ true
     → (stands_in xs v ≡ true → 0 < count_of xs v) → 0 < n
@@ -69,7 +70,7 @@ pub vertices_from : (P : ℕ → Type 0) (side done : List ℕ) → Every P done
 vertices_from P [] done h g = h
 vertices_from P (x ∷ side) done h g =
     elim (stands_in done x) as (λ b. Every P (fold with_vertex (cond b done (done ++ x ∷ [])) side))
-        [ true ↦ vertices_from P side done h g.1 | false ↦ vertices_from P side (done ++ x ∷ []) (every_append P done (x ∷ []) h (g.0, tt)) g.1 ]
+    [ true ↦ vertices_from P side done h g.1 | false ↦ vertices_from P side (done ++ x ∷ []) (every_append P done (x ∷ []) h (g.0, tt)) g.1 ]
 
 pub vertices_stand : (side : List ℕ) → Every (λ v. stands_in side v ≡ true) (vertices side)
 unfolding vertices
@@ -101,7 +102,7 @@ once_case : (b : Bool) (x : ℕ) (side done : List ℕ) (v : ℕ) → stands_in 
 once_case true x side done v h e go = go done e ∙ ap bit (once_yes done x v (stands_in side v) h)
 once_case false x side done v h e go =
     go (done ++ x ∷ []) (once_no done x v h e)
-        ∙ ap bit (ap (λ b. b || stands_in side v) (stands_push done x v) ∙ or_assoc (stands_in done v) (nat_eq x v) (stands_in side v))
+    ∙ ap bit (ap (λ b. b || stands_in side v) (stands_push done x v) ∙ or_assoc (stands_in done v) (nat_eq x v) (stands_in side v))
 
 once_from : (side done : List ℕ) (v : ℕ) → count_of done v ≡ bit (stands_in done v)
     → count_of (fold with_vertex done side) v ≡ bit (stands_in done v || stands_in side v)

@@ -93,7 +93,7 @@ pub near_sum : (units : ℕ → ℕ) (near vs : List ℕ) → Covers vs near →
     → sum (carried_after units near [] near) ≡ sum_by units vs
 near_sum units near vs h g =
     sym (arrived_sum near (carried_after units near [] near) vs (sym (length_carried units near [] near)) h)
-        ∙ sum_same (arrived near (carried_after units near [] near)) units vs (owned vs g)
+    ∙ sum_same (arrived near (carried_after units near [] near)) units vs (owned vs g)
   where
     owned : (vs : List ℕ) → Every (λ v. stands_in near v ≡ true) vs → Every (λ v. arrived near (carried_after units near [] near) v ≡ units v) vs
     owned [] h = tt
@@ -104,7 +104,7 @@ pub step_sum : (near far : List ℕ) (units : ℕ → ℕ) → length near ≡ l
 unfolding half_step
 step_sum near far units l =
     arrived_sum far (carried_after units near [] near) (vertices far) (sym l ∙ sym (length_carried units near [] near)) (vertices_cover far)
-        ∙ near_sum units near (vertices near) (vertices_cover near) (vertices_stand near)
+    ∙ near_sum units near (vertices near) (vertices_cover near) (vertices_stand near)
 
 pub total_same : (n : ℕ) (near far : List ℕ) (units : ℕ → ℕ) → length near ≡ length far
     → total_after n near far units ≡ sum_by units (vertices near)

@@ -81,7 +81,7 @@ users_stand (x ∷ xs) seeds mask = stand_case (passes mask x && stands_in seeds
     stand_case : (b : Bool) → (passes mask x && stands_in seeds x.user) ≡ b
         → Every (λ v. stands_in seeds v ≡ true) (users_of (filter (λ x. passes mask x && stands_in seeds x.user) xs))
         → Every (λ v. stands_in seeds v ≡ true)
-            (users_of (cond b (x ∷ filter (λ x. passes mask x && stands_in seeds x.user) xs) (filter (λ x. passes mask x && stands_in seeds x.user) xs)))
+        (users_of (cond b (x ∷ filter (λ x. passes mask x && stands_in seeds x.user) xs) (filter (λ x. passes mask x && stands_in seeds x.user) xs)))
     stand_case true e rest = (and_right (passes mask x) (stands_in seeds x.user) e, rest)
     stand_case false e rest = rest
 
@@ -135,6 +135,7 @@ vertices_same side v = same_case (stands_in (vertices side) v) refl
         let more = count_stands (vertices side) v f in
         let none = vertices_once side v ∙ ap bit e in
         absurd (omega (arith, more, none))
+
     same_case : (b : Bool) → stands_in (vertices side) v ≡ b → b ≡ stands_in side v
     same_case true e = not_none (stands_in side v) refl e
     same_case false e = sym (stands_vertices side v e)

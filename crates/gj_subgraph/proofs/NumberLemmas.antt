@@ -77,27 +77,30 @@ length_push xs x = length-append xs (x ∷ [])
 index_grows : (names : List ℕ) (id k : ℕ) → k < length names → get_or (with_vertex names id) k 0 ≡ get_or names k 0
 index_grows names id k l =
     elim (stands_in names id) as (λ b. get_or (cond b names (names ++ id ∷ [])) k 0 ≡ get_or names k 0)
-        [ true ↦ refl | false ↦ index_push names id k l ]
+    [ true ↦ refl | false ↦ index_push names id k l ]
 
 length_grows : (names : List ℕ) (id : ℕ) → length names ≤ length (with_vertex names id)
 length_grows names id =
     elim (stands_in names id) as (λ b. length names ≤ length (cond b names (names ++ id ∷ [])))
-        [ true ↦ omega arith | false ↦ (let one = length_push names id in omega (arith, one)) ]
+    [ true ↦ omega arith | false ↦ (let one = length_push names id in omega (arith, one)) ]
 
 pub placed_push : (xs names places : List ℕ) (id n : ℕ) → ArePlaced xs names places → n < length (with_vertex names id)
     → get_or (with_vertex names id) n 0 ≡ id → ArePlaced (xs ++ id ∷ []) (with_vertex names id) (places ++ n ∷ [])
 placed_push xs names places id n h l e = record {
   same_len = let one = length_push xs id in let two = length_push places n in omega (arith, one, two, h.same_len);
   in_range = λ k m. elim (cases_lt k (length xs)) [
-      inl g ↦ rw (index_push places n k (rw (h.same_len) g)) (let one = h.in_range k g in let two = length_grows names id in omega (arith, one, two))
-    | inr g ↦ rw (index_last places n k (last k m g)) l ];
+    | inl g ↦ rw (index_push places n k (rw (h.same_len) g)) (let one = h.in_range k g in let two = length_grows names id in omega (arith, one, two))
+    | inr g ↦ rw (index_last places n k (last k m g)) l
+  ];
   named = λ k m. elim (cases_lt k (length xs)) [
-      inl g ↦ rw (index_push places n k (rw (h.same_len) g), index_push xs id k g, index_grows names id (get_or places k 0) (h.in_range k g)) (h.named k g)
-    | inr g ↦ rw (index_last places n k (last k m g), index_last xs id k (last_side k m g)) e ];
+    | inl g ↦ rw (index_push places n k (rw (h.same_len) g), index_push xs id k g, index_grows names id (get_or places k 0) (h.in_range k g)) (h.named k g)
+    | inr g ↦ rw (index_last places n k (last k m g), index_last xs id k (last_side k m g)) e
+  ];
 }
   where
     last_side : (k : ℕ) → k < length (xs ++ id ∷ []) → length xs ≤ k → k ≡ length xs
     last_side k m g = let one = length_push xs id in omega (arith, one)
+
     last : (k : ℕ) → k < length (xs ++ id ∷ []) → length xs ≤ k → k ≡ length places
     last k m g = let one = length_push xs id in omega (arith, one, h.same_len)
 

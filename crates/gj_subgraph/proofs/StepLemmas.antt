@@ -68,12 +68,12 @@ next_within units near k l =
     let whole = carried_append units near [] (take (k + 1) near) (drop (k + 1) near) in
     let total = sum_by-append (λ n. n) (carried_after units near [] (take (k + 1) near)) (carried_after units near (take (k + 1) near) (drop (k + 1) near)) in
     let front_is : carried_after units near [] (take (k + 1) near) ≡ carried_after units near [] (take k near) ++ carried units near (take k near) (get_or near k 0) ∷ [] =
-        rw (take_more near k 0 l) (carried_push units near (take k near) (get_or near k 0)) in
+    rw (take_more near k 0 l) (carried_push units near (take k near) (get_or near k 0)) in
     let front_total = sum_by-append (λ n. n) (carried_after units near [] (take k near)) (carried units near (take k near) (get_or near k 0) ∷ []) in
     let same : sum (carried_after units near [] near) ≡ sum (carried_after units near [] (take (k + 1) near)) + sum (carried_after units near (take (k + 1) near) (drop (k + 1) near)) =
-        ap (λ l. sum (carried_after units near [] l)) (sym parts) ∙ ap (λ l. sum l) whole ∙ total in
+    ap (λ l. sum (carried_after units near [] l)) (sym parts) ∙ ap (λ l. sum l) whole ∙ total in
     let same_front : sum (carried_after units near [] (take (k + 1) near)) ≡ sum (carried_after units near [] (take k near)) + sum (carried units near (take k near) (get_or near k 0) ∷ []) =
-        ap (λ l. sum l) front_is ∙ front_total in
+    ap (λ l. sum l) front_is ∙ front_total in
     omega (arith, same, same_front)
 
 -- units by numbers
@@ -101,6 +101,7 @@ stands_vertices side v e = absent (stands_in side v) refl
         zero_case : (b : Bool) (xs : List ℕ) (v n : ℕ) → n ≡ bit b + count_of xs v → (b || stands_in xs v) ≡ false → (stands_in xs v ≡ false → count_of xs v ≡ 0) → n ≡ 0
         zero_case true xs v n f e go = absurd (let bad : true ≡ false = e in cc)
         zero_case false xs v n f e go = let none = go e in omega (arith, f, none)
+
     absent : (b : Bool) → stands_in side v ≡ b → b ≡ false
     absent false f = refl
     absent true f =
@@ -190,9 +191,9 @@ pub record Stepped (near far near_names far_names : List ℕ) (units : ℕ → �
   pub more_len : length more ≡ length near_names
   pub out_len : length out ≡ length far_names
   pub more_is : (u : ℕ) → u < length near_names
-    → get_or more u 0 ≡ units (get_or near_names u 0) % count_of near (get_or near_names u 0) - count_of (take k near) (get_or near_names u 0)
+      → get_or more u 0 ≡ units (get_or near_names u 0) % count_of near (get_or near_names u 0) - count_of (take k near) (get_or near_names u 0)
   pub out_is : (w : ℕ) → w < length far_names
-    → get_or out w 0 ≡ arrived (take k far) (carried_after units near [] (take k near)) (get_or far_names w 0)
+      → get_or out w 0 ≡ arrived (take k far) (carried_after units near [] (take k near)) (get_or far_names w 0)
 
 minus_bit : (r c n : ℕ) → r - c - n ≡ r - (c + n)
 minus_bit r c n = omega arith
@@ -217,7 +218,7 @@ part_of near far near_names far_names units k more out p q s l e f =
     let one = s.more_is p l in
     rw (← e, f)
     (part_is (units (get_or near_names p 0) / count_of near (get_or near_names p 0))
-        (units (get_or near_names p 0) % count_of near (get_or near_names p 0)) (count_of (take k near) (get_or near_names p 0)) (get_or more p 0) one)
+    (units (get_or near_names p 0) % count_of near (get_or near_names p 0)) (count_of (take k near) (get_or near_names p 0)) (get_or more p 0) one)
 
 pub stepped_more : (near far near_names far_names : List ℕ) (units : ℕ → ℕ) (k : ℕ) (more out : List ℕ) (p w : ℕ) (part : ℕ)
     → Stepped near far near_names far_names units k more out → Distinct near_names → Distinct far_names → k < length near → length near ≡ length far
@@ -229,8 +230,8 @@ stepped_more near far near_names far_names units k more out p w part s dn df l s
   out_len = length-set out w (get_or out w 0 + part) ∙ s.out_len;
   more_is = λ u m.
       taken_at more p u (rw (s.more_len) lp) ∙ ap (λ x. x - bit (nat_eq p u)) (s.more_is u m)
-        ∙ minus_bit (units (get_or near_names u 0) % count_of near (get_or near_names u 0)) (count_of (take k near) (get_or near_names u 0)) (bit (nat_eq p u))
-        ∙ ap (λ x. units (get_or near_names u 0) % count_of near (get_or near_names u 0) - x) (sym (front u m));
+      ∙ minus_bit (units (get_or near_names u 0) % count_of near (get_or near_names u 0)) (count_of (take k near) (get_or near_names u 0)) (bit (nat_eq p u))
+      ∙ ap (λ x. units (get_or near_names u 0) % count_of near (get_or near_names u 0) - x) (sym (front u m));
   out_is = λ v m.
       added_at out w v part (rw (s.out_len) lw) ∙ ap (λ x. x + cond (nat_eq w v) part 0) (s.out_is v m) ∙ sym (arrives v m);
 }
@@ -238,6 +239,7 @@ stepped_more near far near_names far_names units k more out p w part s dn df l s
     front : (u : ℕ) → u < length near_names
         → count_of (take (k + 1) near) (get_or near_names u 0) ≡ count_of (take k near) (get_or near_names u 0) + bit (nat_eq p u)
     front u m = rw (take_more near k 0 l) (count_more near_names (take k near) p u (get_or near k 0) dn lp m ep)
+
     arrives : (v : ℕ) → v < length far_names
         → arrived (take (k + 1) far) (carried_after units near [] (take (k + 1) near)) (get_or far_names v 0)
         ≡ arrived (take k far) (carried_after units near [] (take k near)) (get_or far_names v 0) + cond (nat_eq w v) part 0
@@ -245,8 +247,8 @@ stepped_more near far near_names far_names units k more out p w part s dn df l s
         let inside : k < length far = omega arith in
         rw (take_more near k 0 l, take_more far k 0 inside, carried_push units near (take k near) (get_or near k 0), ← e)
         (arrived_push (take k far) (carried_after units near [] (take k near)) (get_or far k 0) part (get_or far_names v 0) (length_front k near far units same)
-            ∙ ap (λ b. arrived (take k far) (carried_after units near [] (take k near)) (get_or far_names v 0) + cond b part 0)
-            (ap (λ x. nat_eq x (get_or far_names v 0)) (sym ew) ∙ told_bit far_names w v df lw m))
+        ∙ ap (λ b. arrived (take k far) (carried_after units near [] (take k near)) (get_or far_names v 0) + cond b part 0)
+        (ap (λ x. nat_eq x (get_or far_names v 0)) (sym ew) ∙ told_bit far_names w v df lw m))
 
 pub stepped_none : (near far near_names far_names : List ℕ) (units : ℕ → ℕ) (more out : List ℕ) → length more ≡ length near_names → length out ≡ length far_names
     → ((u : ℕ) → u < length near_names → get_or more u 0 ≡ units (get_or near_names u 0) % count_of near (get_or near_names u 0))
@@ -275,7 +277,7 @@ pub whole_sum : (near : List ℕ) (names array : List ℕ) → names ≡ vertice
     → sum (carried_after (units_in names array) near [] near) ≡ sum array
 whole_sum near names array e l =
     near_sum (units_in names array) near (vertices near) (vertices_cover near) (vertices_stand near)
-        ∙ ap (λ vs. sum_by (units_in names array) vs) (sym e) ∙ units_sum names array (λ v. rw e (vertices_distinct near v)) l
+    ∙ ap (λ vs. sum_by (units_in names array) vs) (sym e) ∙ units_sum names array (λ v. rw e (vertices_distinct near v)) l
 
 -- all edges have been passed
 pub stepped_all : (near far near_names far_names : List ℕ) (units : ℕ → ℕ) (k : ℕ) (more out : List ℕ)
@@ -303,8 +305,8 @@ pub kept_sum : (near far near_names far_names array out : List ℕ) → near_nam
     → units_in far_names out ≡ half_step near far (units_in near_names array) → sum out ≡ sum array
 kept_sum near far near_names far_names array out e f l m same g =
     sym (units_sum far_names out (λ v. rw f (vertices_distinct far v)) m) ∙ ap (λ h. sum_by h far_names) g
-        ∙ ap (λ vs. sum_by (half_step near far (units_in near_names array)) vs) f ∙ step_sum near far (units_in near_names array) same
-        ∙ ap (λ vs. sum_by (units_in near_names array) vs) (sym e) ∙ units_sum near_names array (λ v. rw e (vertices_distinct near v)) l
+    ∙ ap (λ vs. sum_by (half_step near far (units_in near_names array)) vs) f ∙ step_sum near far (units_in near_names array) same
+    ∙ ap (λ vs. sum_by (units_in near_names array) vs) (sym e) ∙ units_sum near_names array (λ v. rw e (vertices_distinct near v)) l
 
 every_at : (P : ℕ → Type 0) (xs : List ℕ) (u : ℕ) → Every P xs → u < length xs → P (get_or xs u 0)
 every_at P [] u h l = absurd (omega arith)
@@ -346,4 +348,4 @@ pub next_part : (near far names far_names degrees places units parts more out : 
     → part ≡ carried (units_in names units) near (take k near) (get_or near k 0)
 next_part near far names far_names degrees places units parts more out k part e d p l f s inside is =
     is ∙ part_of near far names far_names (units_in names units) k more out (get_or places k 0) (get_or parts (get_or places k 0) 0) s
-        (p.in_range k inside) (p.named k inside) (part_named near names degrees units parts e d l f (get_or places k 0) (p.in_range k inside))
+    (p.in_range k inside) (p.named k inside) (part_named near names degrees units parts e d l f (get_or places k 0) (p.in_range k inside))

@@ -7,6 +7,8 @@
 mod masses;
 mod number;
 mod step;
+#[cfg(test)]
+mod tests;
 mod vertices;
 
 pub use masses::{Masses, subgraph};

@@ -9,11 +9,7 @@ use gj_base::Memory;
 use std::alloc::Global;
 
 /// For each vertex the even part of its units that each edge carries, and how many first edges carry one more.
-fn parts_of(
-    alloc: Global,
-    degrees: &[u64],
-    units: &[u64],
-) -> Result<(Vec<u64>, Vec<u64>), Memory>
+fn parts_of(alloc: Global, degrees: &[u64], units: &[u64]) -> Result<(Vec<u64>, Vec<u64>), Memory>
     requires same_len { length degrees.now ≡ length units.now }
     requires positive { (u : ℕ) → u < length units.now → 0 < slice_index degrees.now u }
     ensures parts_len { IfOk result (λ r. length r.0.items ≡ length units.now) }

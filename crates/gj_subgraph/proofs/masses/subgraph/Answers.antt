@@ -26,11 +26,11 @@ returns-clause-exact g c =
     let posts_side = c.in_ok-posts.ensures.side ∙ c.in_ok-users.ensures.posts ∙ ap (λ s. posts_of (edges_of items s mask)) c.as_slice.ensures in
     let names = c.in_ok-posts.ensures.numbered.names ∙ ap vertices posts_side in
     let units = ap (λ xs. units_in posts.names.items xs) c.as_slice-2.ensures.value ∙ c.in_ok-units.ensures.exact
-        ∙ ap (λ us. spread n us posts.side.items (starting us)) users_side
-        ∙ ap (λ ps. spread n (users_of (edges_of items c.ask.inside.seeds mask)) ps (starting (users_of (edges_of items c.ask.inside.seeds mask)))) posts_side in
+    ∙ ap (λ us. spread n us posts.side.items (starting us)) users_side
+    ∙ ap (λ ps. spread n (users_of (edges_of items c.ask.inside.seeds mask)) ps (starting (users_of (edges_of items c.ask.inside.seeds mask)))) posts_side in
     rw (← c.ask.view_is) (c.in_ok-found.ensures ∙ ap (λ f. fold (with_mass f) [] posts.names.items) units
-        ∙ ap (λ vs. fold (with_mass (spread n (users_of (edges_of items c.ask.inside.seeds mask)) (posts_of (edges_of items c.ask.inside.seeds mask))
-            (starting (users_of (edges_of items c.ask.inside.seeds mask))))) [] vs) names)
+    ∙ ap (λ vs. fold (with_mass (spread n (users_of (edges_of items c.ask.inside.seeds mask)) (posts_of (edges_of items c.ask.inside.seeds mask))
+    (starting (users_of (edges_of items c.ask.inside.seeds mask))))) [] vs) names)
 
 pub returns-clause-kept : goal.returns-clause-kept
 returns-clause-kept g c = λ n.

@@ -28,7 +28,7 @@ loop-i-preserved c =
     let n = c.args.iterations - (c.loop-i._i + 1) in
     let back = c.in_ok-back.ensures.exact ∙ ap (λ xs. half_step posts.side.items users.side.items (units_in posts.names.items xs)) c.as_slice-in-loop-i.ensures.value in
     let units = c.in_ok-units-2.ensures.exact ∙ ap (λ xs. half_step users.side.items posts.side.items (units_in users.names.items xs)) c.as_slice-in-loop-i-2.ensures.value
-        ∙ ap (λ f. half_step users.side.items posts.side.items f) back in
+    ∙ ap (λ f. half_step users.side.items posts.side.items f) back in
     let before = units_in posts.names.items c.loop-i.units.items in
     let two = spread_one (2 * (c.args.iterations - c.loop-i._i)) (suc (2 * n)) posts.side.items users.side.items before (omega arith) in
     let one = spread_one (suc (2 * n)) (2 * n) users.side.items posts.side.items (half_step posts.side.items users.side.items before) (omega arith) in
@@ -44,4 +44,4 @@ pub returns-clause-exact : goal.returns-clause-exact
 returns-clause-exact c =
     let none : 2 * (c.args.iterations - c.loop-i._i) ≡ 0 = omega arith in
     sym (spread_none (2 * (c.args.iterations - c.loop-i._i)) c.args.posts.now.side.items c.args.users.now.side.items (units_in c.args.posts.now.names.items c.loop-i.units.items) none)
-        ∙ c.loop-i.invariant.left
+    ∙ c.loop-i.invariant.left

@@ -19,4 +19,4 @@ loop-i-preserved c =
     let inside : i < length side = omega (arith, c.requires.places.same_len) in
     rw (take_more side i 0 inside, c.add.ensures)
     (counted_push (take i side) c.args.names.now c.loop-i.degrees.items id p distinct c.loop-i.invariant
-        (c.requires.places.in_range i inside) (c.requires.places.named i inside))
+    (c.requires.places.in_range i inside) (c.requires.places.named i inside))
