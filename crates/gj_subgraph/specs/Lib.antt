@@ -1,1 +1,2 @@
 pub mod Masses
+pub mod Numbers

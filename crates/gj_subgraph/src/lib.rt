@@ -5,5 +5,10 @@
 #![tactic(auto)]
 
 mod masses;
+mod number;
+mod step;
+#[cfg(test)]
+mod tests;
+mod vertices;
 
 pub use masses::{Masses, subgraph};

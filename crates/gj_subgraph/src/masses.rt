@@ -1,17 +1,145 @@
 //! The masses of the posts.
-ghost use Rattle.std.specs.Prelude.{◌≡◌, ◌*◌, ℕ, length, IfOk};
-ghost use Rattle.gj_subgraph.specs.Masses.{edges_of, users_of, posts_of, vertices, starting, total_after, masses_of};
+ghost use Rattle.std.specs.Prelude.{◌≡◌, ◌∷◌, ◌+◌, ◌-◌, ◌*◌, ◌<◌, ◌≤◌, ℕ, [], fold, length, nat_lt, nat_eq, replicate, ◌==◌, ◌&&◌, ◌++◌, if◌then◌else◌, IfOk, OnOk};
+ghost use Rattle.std.specs.HashSet.{contains};
+ghost use Rattle.gj_base.specs.Ends.{passes};
+ghost use Rattle.gj_base.specs.Tally.{with_number};
+ghost use Rattle.gj_subgraph.specs.Masses.{stands_in, edges_of, users_of, posts_of, vertices, starting, spread, with_mass, total_after, masses_of};
+ghost use Rattle.gj_subgraph.specs.Numbers.{AreNumbered, units_in};
 
-use gj_base::{Graph, Memory, SubAsk, Tally};
+use crate::number::{numbered, push};
+use crate::step::half_step;
+use crate::vertices::Vertices;
+use gj_base::{Graph, Item, Mask, Memory, SubAsk, Tally};
 use std::alloc::Global;
+use std::collections::HashSet;
 
 /// The units of each post that has any.
 pub type Masses = Tally;
 
 /// The units of the posts, after one half step to them, and for each further iteration one to the users and one back. The
 /// sum of the units is the same after each half step.
+///
+/// It looks at each interaction of the window once, and at each edge three times for each half step.
 pub fn subgraph<G: Graph>(alloc: Global, graph: &G, ask: &SubAsk) -> Result<Masses, Memory>
     ensures exact { IfOk result (λ masses. masses ≡ masses_of (G.shown graph.now).items ask.now) }
+    ensures kept { let edges = edges_of (G.shown graph.now).items ask.now.seeds ask.now.mask in
+        OnOk result ((n : ℕ) → total_after n (users_of edges) (posts_of edges) (starting (users_of edges)) ≡ 1048576 * length (vertices (users_of edges))) }
 {
-    Err(Memory)
+    let (users, posts) = edges(alloc, graph, ask.seeds.as_slice(), ask.mask)?;
+    let users = numbered(alloc, users)?;
+    let posts = numbered(alloc, posts)?;
+    let units = units_of(alloc, &users, &posts, ask.iterations)?;
+    let found = masses(alloc, &posts, units.as_slice())?;
+    Ok(found)
+}
+
+/// The seed users, as a set.
+fn seed_set(alloc: Global, seeds: &[u64]) -> Result<HashSet<u64>, Memory>
+    ensures { IfOk result (λ set. (user : ℕ) → contains nat_eq set user ≡ stands_in seeds.now user) }
+{
+    let mut set = HashSet::new(alloc);
+    for seed in seeds {
+        match set.insert(*seed) {
+            Ok(_) => {}
+            Err(_) => return Err(Memory),
+        }
+    }
+    Ok(set)
+}
+
+/// Keeps the user and the post of an interaction that is an edge of the subgraph.
+fn keep_edge(
+    item: Item,
+    mask: Mask,
+    seeds: &HashSet<u64>,
+    users: &mut Vec<u64>,
+    posts: &mut Vec<u64>,
+) -> Result<(), Memory>
+    ensures users { OnOk result (users.new.items ≡ (if passes mask item && contains nat_eq seeds.now item.user then users.old.items ++ item.user ∷ [] else users.old.items)) }
+    ensures posts { OnOk result (posts.new.items ≡ (if passes mask item && contains nat_eq seeds.now item.user then posts.old.items ++ item.post ∷ [] else posts.old.items)) }
+{
+    if mask.has(item.kind) && seeds.contains(&item.user) {
+        push(users, item.user)?;
+        push(posts, item.post)?;
+    }
+    Ok(())
+}
+
+/// The users and the posts of the subgraph's edges, edge by edge.
+fn edges<G: Graph>(
+    alloc: Global,
+    graph: &G,
+    seeds: &[u64],
+    mask: Mask,
+) -> Result<(Vec<u64>, Vec<u64>), Memory>
+    ensures users { IfOk result (λ r. r.0.items ≡ users_of (edges_of (G.shown graph.now).items seeds.now mask)) }
+    ensures posts { IfOk result (λ r. r.1.items ≡ posts_of (edges_of (G.shown graph.now).items seeds.now mask)) }
+{
+    let set = seed_set(alloc, seeds)?;
+    let mut users = Vec::new(alloc);
+    let mut posts = Vec::new(alloc);
+    for place in graph.base()..graph.length() {
+        keep_edge(graph.item(place), mask, &set, &mut users, &mut posts)?;
+    }
+    Ok((users, posts))
+}
+
+/// The units at the posts after the last half step.
+fn units_of(
+    alloc: Global,
+    users: &Vertices,
+    posts: &Vertices,
+    iterations: u32,
+) -> Result<Vec<u64>, Memory>
+    requires users { AreNumbered users.now }
+    requires posts { AreNumbered posts.now }
+    requires edges { length users.now.side.items ≡ length posts.now.side.items }
+    requires few { length users.now.names.items ≤ 1000 }
+    requires some { 0 < iterations }
+    ensures len { IfOk result (λ units. length units.items ≡ length posts.now.names.items) }
+    ensures exact { IfOk result (λ units. units_in posts.now.names.items units.items
+        ≡ spread (2 * iterations - 1) users.now.side.items posts.now.side.items (starting users.now.side.items)) }
+{
+    let start = started(alloc, users.names.len())?;
+    let mut units = half_step(alloc, users, posts, start.as_slice())?;
+    for _i in 1..iterations {
+        let back = half_step(alloc, posts, users, units.as_slice())?;
+        units = half_step(alloc, users, posts, back.as_slice())?;
+    }
+    Ok(units)
+}
+
+/// The units of so many users at the start.
+fn started(alloc: Global, n: usize) -> Result<Vec<u64>, Memory>
+    ensures len { IfOk result (λ v. length v.items ≡ n) }
+    ensures exact { IfOk result (λ v. v.items ≡ replicate n 1048576) }
+{
+    match vec![in alloc; 1_048_576; n] {
+        Ok(v) => Ok(v),
+        Err(_) => Err(Memory),
+    }
+}
+
+/// Gives the post its units, where it has any.
+fn put_mass(masses: &mut Masses, post: u64, units: u64) -> Result<(), Memory>
+    ensures { OnOk result (masses.new ≡ (if units == 0 then masses.old else with_number masses.old post units)) }
+{
+    if units == 0 {
+        return Ok(());
+    }
+    masses.put(post, units)
+}
+
+/// The posts that have units, with these.
+fn masses(alloc: Global, posts: &Vertices, units: &[u64]) -> Result<Masses, Memory>
+    requires posts { AreNumbered posts.now }
+    requires len { length units.now ≡ length posts.now.names.items }
+    ensures { IfOk result (λ masses. masses ≡ fold (with_mass (units_in posts.now.names.items units.now)) [] posts.now.names.items) }
+{
+    let mut masses = Tally::new(alloc);
+    let names = posts.names.as_slice();
+    for u in 0..names.len() {
+        put_mass(&mut masses, names[u], units[u])?;
+    }
+    Ok(masses)
 }

@@ -1,0 +1,5 @@
+pub mod CountLemmas
+pub mod LawLemmas
+pub mod NumberLemmas
+pub mod StepLemmas
+pub mod MassLemmas

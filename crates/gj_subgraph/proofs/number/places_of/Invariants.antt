@@ -1,0 +1,11 @@
+use Rattle.std.proofs.Common.{◌≡◌, ℕ, ◌<◌, [], length, take, fold, get_or}
+use Rattle.gj_subgraph.specs.Masses.{with_vertex}
+use Rattle.gj_subgraph.specs.Numbers.{AreNumbers, ArePlaced}
+use Rattle.gj_subgraph.proofs.number.places_of.Given as goal
+
+abbrev pub invariant-loop-id : goal.invariant-loop-id
+invariant-loop-id l = record {
+  numbers : AreNumbers l.numbers l.names.items;
+  names : l.names.items ≡ fold with_vertex [] (take l.id-index l.side);
+  places : ArePlaced (take l.id-index l.side) l.names.items l.places.items;
+}
