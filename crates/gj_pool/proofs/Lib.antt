@@ -1,1 +1,5 @@
+pub mod LevelLemmas
 pub mod PairLemmas
+pub mod PushLemmas
+pub mod RowLemmas
+pub mod SliceLemmas

@@ -1,2 +1,4 @@
+pub mod Levels
 pub mod Lists
 pub mod Pairs
+pub mod Slices

@@ -4,7 +4,9 @@
 #![tactic(auto)]
 
 mod regular_pool;
+mod slices;
 #[cfg(test)]
 mod tests;
 
 pub use regular_pool::RegularPool;
+pub use slices::Slices;
