@@ -1,7 +1,7 @@
 -- Sizes and levels.
-use Rattle.std.proofs.Common.{◌≡◌, ◌≢◌, ℕ, zero, suc, ◌+◌, ◌-◌, ◌*◌, ◌^◌, ◌<◌, ◌≤◌, Bool, true, false, cond, eqb, refl, ap, sym, ◌∙◌, subst, arith, ◌⊎◌, inl, inr, add-one, lit≤, lit<}
+use Rattle.std.proofs.Common.{◌≡◌, ℕ, zero, suc, ◌+◌, ◌-◌, ◌*◌, ◌^◌, ◌<◌, ◌≤◌, cond, eqb, refl, ap, sym, ◌∙◌, subst, arith, inl, inr, add-one, lit≤, lit<}
 use Rattle.std.proofs.Math.Nat.{pow-succ'}
-use Rattle.std.proofs.lemmas.Bool.{cases_lt, cases_eq}
+use Rattle.std.proofs.lemmas.Bool.{cases_lt}
 use Rattle.std.proofs.lemmas.Bool.Decides.{eqb_tells}
 use Rattle.gj_pool.specs.Levels.{hops_to, levels_to, spent}
 use Rattle.gj_pool.specs.Slices.{slice_size, slice_of, slices_for}
@@ -38,16 +38,16 @@ size_twice a (suc b) h =
 pub size_one : (a b x : ℕ) → slice_size a ≤ x → x < 2 * slice_size a → slice_size b ≤ x → x < 2 * slice_size b → a ≡ b
 size_one a b x al ah bl bh =
     elim (cases_lt a b) [
-      inl lt ↦ absurd (omega (arith, size_twice a b lt))
-    | inr le ↦ elim (cases_lt b a) [ inl lt ↦ absurd (omega (arith, size_twice b a lt)) | inr ge ↦ omega arith ]
+      | inl lt ↦ absurd (omega (arith, size_twice a b lt))
+      | inr le ↦ elim (cases_lt b a) [ inl lt ↦ absurd (omega (arith, size_twice b a lt)) | inr ge ↦ omega arith ]
     ]
 
 -- a place below a size lies in a slice before it
 pub size_below : (a b x : ℕ) → slice_size a ≤ x → x < slice_size b → a < b
 size_below a b x al bh =
     elim (cases_lt a b) [
-      inl lt ↦ lt
-    | inr le ↦ elim (cases_lt b a) [ inl lt ↦ absurd (omega (arith, size_twice b a lt)) | inr ge ↦ (let e : a ≡ b = omega arith in absurd (omega (arith, ap slice_size e))) ]
+      | inl lt ↦ lt
+      | inr le ↦ elim (cases_lt b a) [ inl lt ↦ absurd (omega (arith, size_twice b a lt)) | inr ge ↦ (let e : a ≡ b = omega arith in absurd (omega (arith, ap slice_size e))) ]
     ]
 
 pub hops-suc : (i : ℕ) → hops_to (suc i) ≡ cond (eqb (i + 3) (2 ^ (hops_to i + 2))) (hops_to i + 1) (hops_to i)
@@ -65,12 +65,13 @@ AtLevel i k = (2 ^ (k + 1) ≤ i + 2) × (i + 2 < 2 ^ (k + 2))
 next_level : (i k : ℕ) → AtLevel i k → AtLevel (suc i) (cond (eqb (i + 3) (2 ^ (k + 2))) (k + 1) k)
 next_level i k h =
     elim (eqb_tells (i + 3) (2 ^ (k + 2))) [
-      inl p ↦ rw p.0 (omega (arith, p.1, h.0, h.1, double (k + 2), ap (λ n. 2 ^ n) (same_sum k)), omega (arith, p.1, double (k + 2), ap (λ n. 2 ^ n) (same_sum_more k)))
-    | inr q ↦ rw q.0 (omega (arith, h.0), omega (arith, h.1, q.1))
+      | inl p ↦ rw p.0 (omega (arith, p.1, h.0, h.1, double (k + 2), ap (λ n. 2 ^ n) (same_sum k)), omega (arith, p.1, double (k + 2), ap (λ n. 2 ^ n) (same_sum_more k)))
+      | inr q ↦ rw q.0 (omega (arith, h.0), omega (arith, h.1, q.1))
     ]
   where
     same_sum : (k : ℕ) → k + 1 + 1 ≡ k + 2
     same_sum k = omega arith
+
     same_sum_more : (k : ℕ) → k + 1 + 2 ≡ k + 2 + 1
     same_sum_more k = omega arith
 
@@ -87,6 +88,7 @@ slice_at t (suc k) h =
   where
     up : (k : ℕ) → suc k + 1 ≡ k + 2
     up k = omega arith
+
     upper : (k : ℕ) → suc k + 2 ≡ k + 2 + 1
     upper k = omega arith
 
@@ -143,10 +145,33 @@ more_than (suc n) = omega (arith, more_than n, size-suc n)
 
 levels_small : (n d : ℕ) → 2 ^ (n + 1) ≤ d + 1 → levels_to n ≤ 3 * d
 levels_small n d low = let k : n + 1 + 1 ≡ n + 2 = omega arith in
-  omega (arith, low, levels-is n, more_than n, size-pow n, double (n + 1), ap (λ i. 2 ^ i) k)
+    omega (arith, low, levels-is n, more_than n, size-pow n, double (n + 1), ap (λ i. 2 ^ i) k)
 
 -- the law: a list of d cells costs at most 3 d cells past level 0
 pub spent_small : (d : ℕ) → spent d ≤ 3 * d
 unfolding spent
 spent_small zero = omega arith
 spent_small (suc i) = levels_small (hops_to i) (suc i) (omega (arith, (hops_level i).0))
+
+-- the level is the only number with its bounds
+pub level_one : (i k : ℕ) → 2 ^ (k + 1) ≤ i + 2 → i + 2 < 2 * 2 ^ (k + 1) → k ≡ hops_to i
+level_one i k low high =
+    let h = hops_level i in
+    size_one k (hops_to i) (2 * (i + 2))
+    (omega (arith, low, size-pow k, twice k)) (omega (arith, high, size-pow k, twice k))
+    (omega (arith, h.0, size-pow (hops_to i), twice (hops_to i))) (omega (arith, h.1, size-pow (hops_to i), twice (hops_to i)))
+  where
+    twice : (k : ℕ) → 2 ^ (k + 2) ≡ 2 * 2 ^ (k + 1)
+    twice k = let e : k + 2 ≡ k + 1 + 1 = omega arith in ap (λ n. 2 ^ n) e ∙ double (k + 1)
+
+-- the logarithm tells the level
+pub level_by_log : (i r : ℕ) → 2 ^ r ≤ i + 2 → i + 2 < 2 * 2 ^ r → r - 1 ≡ hops_to i
+level_by_log i zero low high = absurd (let one : 2 ^ 0 ≡ 1 = refl in omega (arith, one, high))
+level_by_log i (suc k) low high =
+    let e : suc k - 1 ≡ k = omega arith in
+    let f : suc k ≡ k + 1 = omega arith in
+    rw e (level_one i k (subst (λ n. 2 ^ n ≤ i + 2) f low) (subst (λ n. i + 2 < 2 * 2 ^ n) f high))
+
+pub spent-first : spent 2 ≡ 0
+unfolding levels_to
+spent-first = spent-is 0 ∙ ap levels_to slices-zero

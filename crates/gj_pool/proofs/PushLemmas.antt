@@ -1,16 +1,15 @@
 -- A push on the slices: the room for it, and what it leaves.
-use Rattle.std.proofs.Common.{◌≡◌, ◌≢◌, ℕ, zero, suc, ◌+◌, ◌-◌, ◌*◌, ◌<◌, ◌≤◌, List, [], ◌∷◌, ◌++◌, length, get_or, set, map, refl, ap, sym, ◌∙◌, subst, arith, ◌⊎◌, inl, inr}
-use Rattle.std.specs.List.{sum_by}
+use Rattle.std.proofs.Common.{◌≡◌, ◌≢◌, ℕ, zero, suc, ◌+◌, ◌*◌, ◌<◌, ◌≤◌, List, [], ◌∷◌, ◌++◌, length, get_or, set, map, refl, ap, sym, ◌∙◌, subst, arith, inl, inr}
 use Rattle.std.proofs.lemmas.Bool.{cases_lt, cases_eq}
 use Rattle.std.proofs.lemmas.List.{length-set, length-map, length_push, get_or-map}
 use Rattle.std.proofs.lemmas.List.Sums.{sum_by-set}
 use Rattle.gj_pool.specs.Levels.{spent, levels_to}
 use Rattle.gj_pool.specs.Lists.{cells_of, appended}
-use Rattle.gj_pool.specs.Slices.{Sliced, slice_size, slices_for, IsRow, RowKeeps, AreApart, AreSlices, cut_for}
+use Rattle.gj_pool.specs.Slices.{Sliced, slice_size, slices_for, IsRow, AreSlices, cut_for}
 use Rattle.gj_pool.specs.declared.slices.Row.{Row}
-use Rattle.gj_pool.proofs.LevelLemmas.{size-suc, size-zero, size_pos, slices_need, slices-more, slices-zero, spent-is, levels-suc}
+use Rattle.gj_pool.proofs.LevelLemmas.{size-suc, size-zero, slices_need, slices-more, spent-is, levels-suc}
 use Rattle.gj_pool.proofs.SliceLemmas.{length-row}
-use Rattle.gj_pool.proofs.RowLemmas.{view_of, IsReady, row_at, ready_spare, ready_first, ready_link, own_place, put_apart, put_lists, cut-rows}
+use Rattle.gj_pool.proofs.RowLemmas.{view_of, IsReady, row_at, ready_spare, ready_first, ready_link, own_place, put_apart, cut-rows}
 
 -- how a row is made ready
 pub record Readies (was row : Row) (cells new : List ℕ) (used more : ℕ) : Type 0 where
@@ -68,31 +67,31 @@ pub made_ready : (rows : List Row) (cells new : List ℕ) (used more v : ℕ) (w
 made_ready rows cells new used more v was row s within read how =
     let r : IsRow cells used s.apart.whose s.apart.which v was = row_at rows cells used v was s.apart within read in
     elim (cases_eq was.degree was.full) [
-      inr spare ↦
-        (let e = how.spare spare in
-        let lt : was.degree + 4 < slice_size (slices_for was.degree) = omega (arith, r.keeps.fits, r.full, spare) in
-        let m = some_slice (slices_for was.degree) (omega (arith, lt)) in
-        let base : IsReady rows cells cells used v was was = ready_spare rows cells used v was s.apart within read spare m.0 m.1 in
-        subst (λ (row' : Row). IsReady rows cells new more v was row') (sym e.0)
+      | inr spare ↦
+          (let e = how.spare spare in
+          let lt : was.degree + 4 < slice_size (slices_for was.degree) = omega (arith, r.keeps.fits, r.full, spare) in
+          let m = some_slice (slices_for was.degree) (omega (arith, lt)) in
+          let base : IsReady rows cells cells used v was was = ready_spare rows cells used v was s.apart within read spare m.0 m.1 in
+          subst (λ (row' : Row). IsReady rows cells new more v was row') (sym e.0)
           (subst (λ (n : List ℕ). IsReady rows cells n more v was was) (sym e.1)
-            (subst (λ (u : ℕ). IsReady rows cells cells u v was was) (sym e.2) base)))
-    | inl full ↦
-        (let e = how.opened full in
-        elim (cases_lt 0 was.full) [
-          inr le ↦
-            (let none : was.full ≡ 0 = omega arith in
-            let b = how.begun full none in
-            let base : IsReady rows cells cells (used + was.full + 5) v was row = ready_first rows cells used v was row s.apart within read full none e.0 e.1 e.2 b.0 in
-            subst (λ (n : List ℕ). IsReady rows cells n more v was row) (sym b.1)
-              (subst (λ (u : ℕ). IsReady rows cells cells u v was row) (sym e.3) base))
-        | inl some ↦
-            (let b = how.linked full some in
-            let m = some_slice (slices_for was.degree) (omega (arith, r.full)) in
-            let base : IsReady rows cells (set cells was.next used) (used + was.full + 5) v was row =
-              ready_link rows cells used v was row s.apart within read full (link_within rows cells used v was s within read full some) m.0 m.1 e.0 e.1 e.2 b.0 in
-            subst (λ (n : List ℕ). IsReady rows cells n more v was row) (sym b.1)
-              (subst (λ (u : ℕ). IsReady rows cells (set cells was.next used) u v was row) (sym e.3) base))
-        ])
+          (subst (λ (u : ℕ). IsReady rows cells cells u v was was) (sym e.2) base)))
+      | inl full ↦
+          (let e = how.opened full in
+          elim (cases_lt 0 was.full) [
+            | inr le ↦
+                (let none : was.full ≡ 0 = omega arith in
+                let b = how.begun full none in
+                let base : IsReady rows cells cells (used + was.full + 5) v was row = ready_first rows cells used v was row s.apart within read full none e.0 e.1 e.2 b.0 in
+                subst (λ (n : List ℕ). IsReady rows cells n more v was row) (sym b.1)
+                (subst (λ (u : ℕ). IsReady rows cells cells u v was row) (sym e.3) base))
+            | inl some ↦
+                (let b = how.linked full some in
+                let m = some_slice (slices_for was.degree) (omega (arith, r.full)) in
+                let base : IsReady rows cells (set cells was.next used) (used + was.full + 5) v was row =
+                ready_link rows cells used v was row s.apart within read full (link_within rows cells used v was s within read full some) m.0 m.1 e.0 e.1 e.2 b.0 in
+                subst (λ (n : List ℕ). IsReady rows cells n more v was row) (sym b.1)
+                (subst (λ (u : ℕ). IsReady rows cells (set cells was.next used) u v was row) (sym e.3) base))
+          ])
     ]
 
 -- the array keeps its length, and what is in use grows by what the cell costs
@@ -104,16 +103,16 @@ pub grows : (rows : List Row) (cells new : List ℕ) (used more v : ℕ) (was ro
 grows rows cells new used more v was row s within read how =
     let r : IsRow cells used s.apart.whose s.apart.which v was = row_at rows cells used v was s.apart within read in
     elim (cases_eq was.degree was.full) [
-      inr spare ↦
-        (let e = how.spare spare in
-        record { long = ap length e.1; cost = omega (arith, e.2, cost_kept cells used s.apart.whose s.apart.which v was r spare) })
-    | inl full ↦
-        (let e = how.opened full in
-        let cost : more + spent (was.degree + 2) ≡ used + spent (was.degree + 1 + 2) = omega (arith, e.3, cost_opened cells used s.apart.whose s.apart.which v was r full) in
-        elim (cases_lt 0 was.full) [
-          inr le ↦ record { long = ap length (how.begun full (omega arith)).1; cost = cost }
-        | inl some ↦ record { long = ap length (how.linked full some).1 ∙ length-set cells was.next used; cost = cost }
-        ])
+      | inr spare ↦
+          (let e = how.spare spare in
+          record { long = ap length e.1; cost = omega (arith, e.2, cost_kept cells used s.apart.whose s.apart.which v was r spare) })
+      | inl full ↦
+          (let e = how.opened full in
+          let cost : more + spent (was.degree + 2) ≡ used + spent (was.degree + 1 + 2) = omega (arith, e.3, cost_opened cells used s.apart.whose s.apart.which v was r full) in
+          elim (cases_lt 0 was.full) [
+            | inr le ↦ record { long = ap length (how.begun full (omega arith)).1; cost = cost }
+            | inl some ↦ record { long = ap length (how.linked full some).1 ∙ length-set cells was.next used; cost = cost }
+          ])
     ]
 
 pub next_within : (rows : List Row) (old cells : List ℕ) (used v : ℕ) (was row : Row) → IsReady rows old cells used v was row → row.next < used
@@ -144,7 +143,7 @@ slices_pushed rows cells new used more v x was row next lists s within read how 
       small = omega (arith, long, s.small);
       within = omega (arith, long, g.cost, cut, room);
       cut = omega (arith, sum_by-set (λ (row' : Row). spent (row'.degree + 2)) rows v next was within, s.cut, g.cost, ap (λ (row' : Row). spent (row'.degree + 2)) read, ap (λ n. spent (n + 2)) degree, ap (λ n. spent (n + 1 + 2)) r.degree);
-      apart = put_apart rows cells new more v was row next x r within degree full first at
+      apart = put_apart rows cells new more v was row next x r within degree full first at;
     }
 
 -- what contracts see, part by part

@@ -3,6 +3,7 @@ ghost use Rattle.std.specs.Prelude.{◌≡◌, ◌≢◌, ℕ, ◌+◌, ◌-◌,
 ghost use Rattle.gj_pool.specs.Levels.{hops_to};
 ghost use Rattle.gj_pool.specs.Lists.{appended, cells_of};
 
+use crate::levels::links_to;
 use gj_base::Memory;
 use std::alloc::Global;
 use std::marker::Model;
@@ -43,6 +44,26 @@ impl Model for Slices {
 impl Slices {
     ghost use Rattle.gj_pool.specs.Slices.{cut_for};
 
+    /// An array of `room` cells for `vertices` empty lists.
+    pub fn new(alloc: Global, vertices: u32, room: u32) -> Result<Slices, Memory>
+        requires limit { room ≤ 196608 }
+        ensures lists { IfOk result (λ s. s.lists ≡ replicate vertices []) }
+        ensures room { IfOk result (λ s. s.room ≡ room) }
+    {
+        let rows = match vec![in alloc; NO_SLICE; vertices as usize] {
+            Ok(rows) => rows,
+            Err(_) => return Err(Memory),
+        };
+        match vec![in alloc; 0; room as usize] {
+            Ok(cells) => Ok(Slices {
+                rows,
+                cells,
+                used: 0,
+            }),
+            Err(_) => Err(Memory),
+        }
+    }
+
     /// Appends a cell to the list of vertex `v`, and cuts a slice where the last one is full.
     pub fn push(&mut self, v: u32, cell: u32)
         requires in_range { v < length self.old.lists }
@@ -58,7 +79,49 @@ impl Slices {
             next: row.next + 1,
         };
     }
+
+    /// The cell at place `i` of vertex `v`, places of level 0 not counted. It follows the links one after another.
+    pub fn get(&self, v: u32, i: u32) -> u32
+        requires in_range { v < length self.now.lists }
+        requires held { i < length (cells_of self.now.lists v) }
+        ensures exact { result ≡ slice_index (cells_of self.now.lists v) i }
+    {
+        let row = self.rows[v as usize];
+        let mut start = row.first as usize;
+        let mut size = 4usize;
+        for link in 1..links_to(u64::from(i) + 2) {
+            start = self.cells[start + size] as usize;
+            size *= 2;
+        }
+        self.cells[start + (i as usize + 4 - size)]
+    }
+
+    /// The number of cells of vertex `v`.
+    pub fn degree(&self, v: u32) -> u32
+        requires in_range { v < length self.now.lists }
+        ensures exact { result ≡ length (cells_of self.now.lists v) }
+    {
+        self.rows[v as usize].degree
+    }
+
+    /// Empties each list. It takes time in the number of vertices.
+    pub fn clear(&mut self)
+        ensures exact { self.new ≡ record self.old { lists = replicate (length self.old.lists) [] } }
+    {
+        for row in self.rows.iter_mut() {
+            *row = NO_SLICE;
+        }
+        self.used = 0;
+    }
 }
+
+/// A vertex with no slice.
+const NO_SLICE: Row = Row {
+    degree: 0,
+    full: 0,
+    first: 0,
+    next: 0,
+};
 
 /// The row with room for one more cell: where its slices are full, with a new slice at the end of those in use.
 fn ready(row: Row, cells: &mut Vec<u32>, used: &mut u32) -> Row

@@ -1,10 +1,8 @@
-use Rattle.std.proofs.Common.{rules, ◌≡◌, ◌<◌, ◌≤◌, ◌^◌, [], ℕ, ◌+◌, ◌-◌, ◌*◌, List, Fits, w32, length, set, ap, sym, ◌∙◌, refl, arith, map, vec_len}
+use Rattle.std.proofs.Common.{◌≡◌, ◌<◌, ◌≤◌, ℕ, ◌+◌, List, length, ap, ◌∙◌, refl, arith, map}
 use Rattle.std.proofs.lemmas.List.{length-map, length-set}
-use Rattle.gj_pool.specs.Lists.{appended}
-use Rattle.gj_pool.specs.Slices.{AreSlices, cut_for}
 use Rattle.gj_pool.specs.declared.slices.Row.{Row}
-use Rattle.gj_pool.proofs.RowLemmas.{view_of, IsReady, put_lists}
-use Rattle.gj_pool.proofs.PushLemmas.{Readies, Grows, link_within, made_ready, grows, next_fits, slice_fits, slices_pushed, sliced}
+use Rattle.gj_pool.proofs.RowLemmas.{view_of, put_lists}
+use Rattle.gj_pool.proofs.PushLemmas.{Readies, link_within, made_ready, grows, next_fits, slice_fits, slices_pushed, sliced}
 use Rattle.gj_pool.proofs.slices.Slices.push.Goals as goal
 
 pub ready-row-requires-clause-linked : goal.ready-row-requires-clause-linked
@@ -38,10 +36,10 @@ index_mut-requires c =
       spare = c.ready-row.ensures.spare;
       opened = c.ready-row.ensures.opened;
       begun = c.ready-row.ensures.begun;
-      linked = c.ready-row.ensures.linked
+      linked = c.ready-row.ensures.linked;
     } in
     let lt = next_fits rows cells c.ready-row.new.cells.items c.self.inside.used c.ready-row.new.used c.args.v c.args.cell c.index.result.now c.ready-row.result c.args.self.now.lists
-      c.self.invariant within c.index.ensures how seen (omega (arith, c.requires.room, room)) in
+    c.self.invariant within c.index.ensures how seen (omega (arith, c.requires.room, room)) in
     omega (arith, lt.0, c.ready-row.new.cells.ok)
 
 pub overflow_add-row-2 : goal.overflow_add-row-2
@@ -55,10 +53,10 @@ overflow_add-row-2 c =
       spare = c.ready-row.ensures.spare;
       opened = c.ready-row.ensures.opened;
       begun = c.ready-row.ensures.begun;
-      linked = c.ready-row.ensures.linked
+      linked = c.ready-row.ensures.linked;
     } in
     let lt = next_fits rows cells c.ready-row.new.cells.items c.self.inside.used c.ready-row.new.used c.args.v c.args.cell c.index.result.now c.ready-row.result c.args.self.now.lists
-      c.self.invariant within c.index.ensures how seen (omega (arith, c.requires.room, room)) in
+    c.self.invariant within c.index.ensures how seen (omega (arith, c.requires.room, room)) in
     omega (arith, lt.1)
 
 pub invariant_of-self : goal.invariant_of-self
@@ -72,10 +70,10 @@ invariant_of-self c =
       spare = c.ready-row.ensures.spare;
       opened = c.ready-row.ensures.opened;
       begun = c.ready-row.ensures.begun;
-      linked = c.ready-row.ensures.linked
+      linked = c.ready-row.ensures.linked;
     } in
     slices_pushed rows cells c.ready-row.new.cells.items c.self.inside.used c.ready-row.new.used c.args.v c.args.cell c.index.result.now c.ready-row.result _ c.args.self.now.lists
-      c.self.invariant within c.index.ensures how seen (omega (arith, c.requires.room, room)) refl refl refl refl
+    c.self.invariant within c.index.ensures how seen (omega (arith, c.requires.room, room)) refl refl refl refl
 
 pub returns : goal.returns
 returns c =
@@ -88,18 +86,18 @@ returns c =
       spare = c.ready-row.ensures.spare;
       opened = c.ready-row.ensures.opened;
       begun = c.ready-row.ensures.begun;
-      linked = c.ready-row.ensures.linked
+      linked = c.ready-row.ensures.linked;
     } in
     let s = c.self.invariant in
     let ready = made_ready rows cells c.ready-row.new.cells.items c.self.inside.used c.ready-row.new.used c.args.v c.index.result.now c.ready-row.result s within c.index.ensures how in
     let g = grows rows cells c.ready-row.new.cells.items c.self.inside.used c.ready-row.new.used c.args.v c.index.result.now c.ready-row.result s within c.index.ensures how in
     let after = slices_pushed rows cells c.ready-row.new.cells.items c.self.inside.used c.ready-row.new.used c.args.v c.args.cell c.index.result.now c.ready-row.result
-      record { degree = c.ready-row.result.degree + 1; full = c.ready-row.result.full; first = c.ready-row.result.first; next = c.ready-row.result.next + 1 } c.args.self.now.lists
-      s within c.index.ensures how seen (omega (arith, c.requires.room, room)) refl refl refl refl in
+    record { degree = c.ready-row.result.degree + 1; full = c.ready-row.result.full; first = c.ready-row.result.first; next = c.ready-row.result.next + 1 } c.args.self.now.lists
+    s within c.index.ensures how seen (omega (arith, c.requires.room, room)) refl refl refl refl in
     let long = length-set c.ready-row.new.cells.items c.ready-row.result.next c.args.cell in
     let fits : c.ready-row.new.used ≤ length c.ready-row.new.cells.items = omega (arith, after.within, long) in
     record {
       exact = sliced _ _ _ _
-        (put_lists rows cells c.ready-row.new.cells.items c.ready-row.new.used c.args.v c.index.result.now c.ready-row.result _ c.args.cell c.args.self.now.lists ready within c.index.ensures fits refl refl seen)
-        (long ∙ (g.long ∙ room))
+          (put_lists rows cells c.ready-row.new.cells.items c.ready-row.new.used c.args.v c.index.result.now c.ready-row.result _ c.args.cell c.args.self.now.lists ready within c.index.ensures fits refl refl seen)
+          (long ∙ (g.long ∙ room));
     }
