@@ -36,13 +36,13 @@ joined-appended a b c d v x ab cd ca here there within =
       | inr ne ↦ there w lt' ne ∙ (sym (joined-at a b w ab lt') ∙ sym (get_or-set_other (joined a b) v w (cells_of (joined a b) v ++ x ∷ []) [] ne))
     ])
 
-cells-appended : (a : List (List ℕ)) (v x : ℕ) → v < length a → cells_of (appended a v x) v ≡ cells_of a v ++ x ∷ []
+pub cells-appended : (a : List (List ℕ)) (v x : ℕ) → v < length a → cells_of (appended a v x) v ≡ cells_of a v ++ x ∷ []
 cells-appended a v x h = get_or-set_same a v (cells_of a v ++ x ∷ []) [] h
 
-cells-others : (a : List (List ℕ)) (v w x : ℕ) → w ≢ v → cells_of (appended a v x) w ≡ cells_of a w
+pub cells-others : (a : List (List ℕ)) (v w x : ℕ) → w ≢ v → cells_of (appended a v x) w ≡ cells_of a w
 cells-others a v w x ne = get_or-set_other a v w (cells_of a v ++ x ∷ []) [] ne
 
-length-appended : (a : List (List ℕ)) (v x : ℕ) → length (appended a v x) ≡ length a
+pub length-appended : (a : List (List ℕ)) (v x : ℕ) → length (appended a v x) ≡ length a
 length-appended a v x = length-set a v (cells_of a v ++ x ∷ [])
 
 -- a push on the first of the two, where the second has nothing
