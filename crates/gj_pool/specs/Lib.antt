@@ -1,0 +1,5 @@
+pub mod Levels
+pub mod Lists
+pub mod Pairs
+pub mod Pools
+pub mod Slices
