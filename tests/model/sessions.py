@@ -19,6 +19,7 @@ import time
 from concurrent.futures import ThreadPoolExecutor
 from pathlib import Path
 
+from heads import NeedMore, Refused, take_message
 from model import FIRST_ROUTES, OPTIONS, ROUTES, run
 from streams import a_session
 
@@ -84,22 +85,36 @@ class Session:
         return run(self.arguments, self.stream, settings.options, settings.routes)
 
 
-def around_first_difference(ours, theirs):
-    """Both outputs from a little before the first byte that differs."""
-    at = len(os.path.commonprefix([ours, theirs]))
-    start = max(0, at - 200)
-    return f"from byte {start}: {ours[start : at + 200]!r}", f"{theirs[start : at + 200]!r}"
+def message_behind(session, at, settings):
+    """The part of the input that the model answers with the byte at this place of its output."""
+    rest = session.stream
+    while True:
+        try:
+            _, after = take_message(rest)
+        except (NeedMore, Refused):
+            return rest
+        shorter = session.stream[: len(session.stream) - len(after)]
+        output, _, _ = run(session.arguments, shorter, settings.options, settings.routes)
+        if len(output) > at:
+            return rest[: len(rest) - len(after)]
+        rest = after
 
 
-def show_difference(session, program, model):
+def cut_short(found):
+    return repr(found) if len(found) <= 1000 else f"{found[:500]!r} .. {found[-500:]!r}"
+
+
+def show_difference(session, program, model, settings):
     size = len(session.stream)
     print(f"session {session.number} differs: arguments {session.arguments}, {size} bytes of input")
-    print(f"the input ends: {session.stream[-1500:]!r}")
+    at = len(os.path.commonprefix([program[0], model[0]]))
+    print(f"byte {at} of the output is about {cut_short(message_behind(session, at, settings))}")
+    start = max(0, at - 200)
     for what, ours, theirs in zip(("output", "status", "line"), program, model):
         if ours == theirs:
             continue
         if what == "output":
-            ours, theirs = around_first_difference(ours, theirs)
+            ours, theirs = ours[start : at + 300], theirs[start : at + 300]
         print(f"program's {what}: {ours}\n  model's {what}: {theirs}")
 
 
@@ -115,7 +130,7 @@ def compare(settings):
             for session, run_of in zip(sessions, runs):
                 expected, found = session.run_model(settings), run_of.result()
                 if found != expected:
-                    show_difference(session, found, expected)
+                    show_difference(session, found, expected, settings)
                     if settings.keep:
                         Path(settings.keep).write_bytes(session.stream)
                     return False

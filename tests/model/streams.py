@@ -35,6 +35,8 @@ def some_seeds(rng):
 
 
 def steps(rng):
+    if rng.random() < 0.01:
+        return 100000
     return rng.choice([1, 2, 3, 7, rng.randint(1, 60), rng.randint(1, 3000)])
 
 
@@ -48,7 +50,7 @@ OPTIONAL = {
     "reset": lambda rng: rng.choice([0, 1, 1500, 5000, 9999, 10000]),
     "top": lambda rng: rng.choice([1, 2, 3, 10, 100]),
     "proof": lambda rng: rng.choice([0, 1, 2, 10]),
-    "hide": lambda rng: rng.random() < 0.5,
+    "hide": lambda rng: rng.random() < 0.7,
     "since": since,
 }
 NEEDED = {
@@ -81,8 +83,9 @@ OPTIONAL_OF = {
 
 def a_body(rng, route):
     body = {name: value(rng) for name, value in NEEDED[route].items()}
+    share = rng.choice([0.1, 0.3, 0.6])
     for name in OPTIONAL_OF[route]:
-        if rng.random() < 0.3:
+        if rng.random() < share:
             body[name] = OPTIONAL[name](rng)
     names = list(body)
     rng.shuffle(names)
@@ -187,10 +190,10 @@ def nested(rng):
 def an_odd_body(rng, route):
     """A body that is near to a good one, as bytes."""
     body = {name: text_of(rng, value) for name, value in a_body(rng, route).items()}
-    way = rng.randrange(12)
+    way = rng.randrange(15)
     names = list(NEEDED[route]) + OPTIONAL_OF[route]
     if way >= 8:
-        for name in rng.sample(names, min(len(names), rng.randint(1, 3))):
+        for name in rng.sample(names, min(len(names), rng.choice([1, 1, 2]))):
             body[name] = rng.choice(AT_THE_LIMITS[name].split())
     elif way == 0:
         return rng.choice([*ODD_VALUES, nested(rng)]).encode()
@@ -499,10 +502,11 @@ def a_session(rng, routes):
     """The bytes of one session."""
     parts = []
     way = rng.random()
-    if way < 0.004:  # past the default window
-        for _ in range(rng.choice([4, 5, 6])):
-            body = a_batch(rng, rng.choice([4095, 4096, 4096, 4097, 3000]))
-            parts.append(a_message(rng, "POST", b"/interactions", json.dumps(body).encode()))
+    if way < 0.005:  # past the default window
+        for length in rng.choice([[4096] * 4 + [1, 4095, 1], [4096, 4095, 4097, 3000, 4096, 4096]]):
+            body = json.dumps(a_batch(rng, length)).encode()
+            parts.append(a_message(rng, "POST", b"/interactions", body))
+            parts.append(a_message(rng, "GET", b"/stats"))
             parts.append(a_good_message(rng, routes))
     elif way < 0.01:
         parts.append(a_long_body(rng, routes))
