@@ -484,11 +484,22 @@ LAST_MESSAGES = [
 ]
 
 
-def a_long_body(rng, routes):
+def a_long_body(rng):
     """A body about as long as a body may be, most of it blanks."""
     body = text_of(rng, a_body(rng, "walk")).encode()
     length = 1048576 + rng.choice([-1, 0, 0, 1])
     return a_message(rng, "POST", b"/walk", body + b" " * (length - len(body)))
+
+
+def each_limit(rng, route):
+    """Each field of a route at each of its limits, in a body that is good but for that."""
+    needed = {name: value(rng) for name, value in NEEDED[route].items()}
+    good = {name: json.dumps(value) for name, value in needed.items()}
+    for name in [*good, *OPTIONAL_OF[route]]:
+        for limit in AT_THE_LIMITS[name].split():
+            members = [f'"{n}":{value}' for n, value in {**good, name: limit}.items()]
+            body = "{" + ",".join(members) + "}"
+            yield a_message(rng, "POST", b"/" + route.encode(), body.encode())
 
 
 # Sessions.
@@ -509,7 +520,9 @@ def a_session(rng, routes):
             parts.append(a_message(rng, "GET", b"/stats"))
             parts.append(a_good_message(rng, routes))
     elif way < 0.01:
-        parts.append(a_long_body(rng, routes))
+        parts.append(a_long_body(rng))
+    elif way < 0.02:
+        parts += each_limit(rng, rng.choice([name for name in routes if name in NEEDED]))
     elif way < 0.8:  # with something to find
         length = rng.randint(13, 300) if way < 0.1 else rng.randint(2, 40)
         body = text_of(rng, a_batch(rng, length)).encode()
