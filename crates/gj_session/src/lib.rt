@@ -1,0 +1,7 @@
+//! Answers to queries.
+#![tactic(auto)]
+
+mod answer;
+mod recent;
+
+pub use answer::answer_on;
