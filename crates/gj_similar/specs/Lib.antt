@@ -1,1 +1,3 @@
+pub mod ScoreOrder
 pub mod Scored
+pub mod Similar

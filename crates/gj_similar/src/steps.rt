@@ -1,0 +1,92 @@
+//! The steps from a post to its users and on.
+ghost use Rattle.std.specs.Prelude.{◌≡◌, ◌<◌, ◌≤◌, [], ◌++◌, length, All, IfOk, OnOk, IfSome};
+ghost use Rattle.gj_base.specs.Draw.{words, after};
+ghost use Rattle.gj_base.specs.Ends.{ends};
+ghost use Rattle.gj_similar.specs.declared.state.State.TheVariants.{Post};
+ghost use Rattle.gj_similar.specs.Similar.{step_of, shared_first, co_visited, shared_of, AreScorable};
+
+use crate::state::State;
+use gj_base::{Graph, Memory, Side, SimAsk, Tally, pick_end};
+use rand_core::utils::NextWord;
+use std::alloc::Global;
+
+/// How often each other post was shared.
+pub type Shared = Tally;
+
+/// The post that a step shares, where it shares one, and the next state.
+#[tactic(auto, unfolding(crate::specs::Similar::step_of))]
+fn step<G: Graph>(graph: &G, ask: &SimAsk, word: u64, state: State) -> (Option<u64>, State)
+    ensures exact { result ≡ step_of (G.shown graph.now).items ask.now word state }
+    ensures back { IfSome result.0 (λ post. 0 < length (ends (G.shown graph.now).items Side.Post post ask.now.mask)) }
+{
+    match state {
+        State::Post => match pick_end(graph, Side::Post, ask.post, ask.mask, word) {
+            None => (None, State::Post),
+            Some(user) => (None, State::User(user)),
+        },
+        State::User(user) => match pick_end(graph, Side::User, user, ask.mask, word) {
+            None => (None, State::Post),
+            Some(other) => {
+                if other == ask.post {
+                    (None, State::Post)
+                } else {
+                    (Some(other), State::Post)
+                }
+            }
+        },
+    }
+}
+
+/// Puts the shared post at the end, where there is one.
+fn note(posts: &mut Vec<u64>, shared: Option<u64>) -> Result<(), Memory>
+    ensures { OnOk result (posts.new.items ≡ posts.old.items ++ shared_first shared []) }
+{
+    match shared {
+        None => Ok(()),
+        Some(post) => posts.push(post).map_err(|_| Memory),
+    }
+}
+
+/// The posts that are shared, in order.
+fn shared_posts<G: Graph, R: NextWord<u64>>(
+    alloc: Global,
+    graph: &G,
+    ask: &SimAsk,
+    generator: &mut R,
+) -> Result<Vec<u64>, Memory>
+    ensures ok { IfOk result (λ posts. posts.items ≡ co_visited (G.shown graph.now).items ask.now (words R.step ask.now.steps generator.old) Post) }
+    ensures further { OnOk result (generator.new ≡ after R.step ask.now.steps generator.old) }
+    ensures back { IfOk result (λ posts. All (λ post. 0 < length (ends (G.shown graph.now).items Side.Post post ask.now.mask)) posts.items) }
+    ensures few { IfOk result (λ posts. length posts.items ≤ 50000) }
+{
+    let mut posts = Vec::new(alloc);
+    // Every other step shares a post at most.
+    if posts.reserve(ask.steps as usize / 2).is_err() {
+        return Err(Memory);
+    }
+    let mut state = State::Post;
+    for _ in 0..ask.steps {
+        let word = generator.next_word();
+        let (shared, next) = step(graph, ask, word, state);
+        note(&mut posts, shared)?;
+        state = next;
+    }
+    Ok(posts)
+}
+
+/// How often the ask's post shares a user with each other post, by the generator's next `steps` words, one a step. A step
+/// calls the graph twice at most and takes no memory; the co-visits are counted at the end. Where memory is wanting,
+/// nothing is said of the generator.
+pub fn similar<G: Graph, R: NextWord<u64>>(
+    alloc: Global,
+    graph: &G,
+    ask: &SimAsk,
+    generator: &mut R,
+) -> Result<Shared, Memory>
+    ensures ok { IfOk result (λ shared. shared ≡ shared_of (G.shown graph.now).items ask.now (words R.step ask.now.steps generator.old)) }
+    ensures further { OnOk result (generator.new ≡ after R.step ask.now.steps generator.old) }
+    ensures scorable { IfOk result (λ shared. AreScorable (G.shown graph.now).items ask.now.mask shared) }
+{
+    let posts = shared_posts(alloc, graph, ask, generator)?;
+    Tally::of_posts(alloc, posts)
+}
