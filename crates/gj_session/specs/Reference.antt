@@ -1,5 +1,5 @@
 -- The reference answers: the reply to each query over a window. Own: what a ranking is made of, and what a vertex shows.
-use Rattle.std.specs.Prelude.{ℕ, nat_lt, Bool, false, if◌then◌else◌, List, [], map, take, reverse, length, count_by}
+use Rattle.std.specs.Prelude.{ℕ, nat_lt, Bool, false, if◌then◌else◌, List, map, take, reverse, length, count_by}
 use Rattle.rand_core.specs.Pcg32Seed.{pcg32_seed}
 use Rattle.rand_pcg.specs.Pcg.{pcg64, pcg64_of_seed}
 use Rattle.gj_base.specs.Asks.{WalkQuery, SubQuery, SimQuery}
@@ -23,6 +23,7 @@ use Rattle.gj_reply.specs.declared.reply.KindCounts.{KindCounts}
 use Rattle.gj_reply.specs.declared.reply.Reply.{Reply}
 use Rattle.gj_reply.specs.declared.reply.Reply.TheVariants as reply
 use Rattle.gj_similar.specs.Scored.{Scored}
+use Rattle.gj_similar.specs.Similar.{scored_of}
 use Rattle.gj_subgraph.specs.Masses.{masses_of}
 use Rattle.gj_walk.specs.Walk.{visits_of}
 
@@ -44,9 +45,9 @@ walk_results items ask =
 unfoldable pub sub_results : List Item → SubQuery → List Ranked
 sub_results items ask = best_of items ask.seeds (masses_of items ask) false ask.top ask.mask ask.proof
 
--- the posts that share users with a post
+-- the posts that share users with a post, by their scores
 unfoldable pub sim_results : List Item → SimQuery → List Scored
-sim_results items ask = []
+sim_results items ask = scored_of items ask (words_of_seed ask.seed ask.steps)
 
 -- the ends of a vertex over all kinds
 abbrev pub all_ends : List Item → Side → ℕ → List (ℕ × Kind)

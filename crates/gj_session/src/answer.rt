@@ -8,6 +8,7 @@ use crate::recent::{counts, degree_of, latest};
 use gj_base::{Graph, Memory, Query, Side, SimAsk, SubAsk, WalkAsk};
 use gj_proof::{explained, rank};
 use gj_reply::Reply;
+use gj_similar::{order_scores, similar};
 use gj_subgraph::subgraph;
 use gj_walk::walk;
 use rand_core::SeedableRng;
@@ -55,11 +56,18 @@ fn sub_reply<G: Graph>(alloc: Global, graph: &G, ask: &SubAsk) -> Result<Reply, 
     })
 }
 
-/// The posts that share users with the ask's post.
-fn sim_reply<G: Graph>(_alloc: Global, _graph: &G, _ask: &SimAsk) -> Result<Reply, Memory>
-    ensures { IfOk result (λ made. made ≡ Reply.Similar (end_of (G.shown _graph.now)) (sim_results (G.shown _graph.now).items _ask.now)) }
+/// The posts that share users with the ask's post, by the words of the ask's seed.
+#[tactic(auto, unfolding(crate::specs::Reference::sim_results))]
+fn sim_reply<G: Graph>(alloc: Global, graph: &G, ask: &SimAsk) -> Result<Reply, Memory>
+    ensures { IfOk result (λ made. made ≡ Reply.Similar (end_of (G.shown graph.now)) (sim_results (G.shown graph.now).items ask.now)) }
 {
-    Err(Memory)
+    let mut generator = Lcg128Xsl64::seed_from_u64(ask.seed);
+    let shared = similar(alloc, graph, ask, &mut generator)?;
+    let results = order_scores(alloc, graph, &shared, ask.mask, ask.top)?;
+    Ok(Reply::Similar {
+        length: graph.length(),
+        results,
+    })
 }
 
 /// A user's degree and latest ends.
@@ -120,7 +128,7 @@ fn reply_by_kind<G: Graph>(alloc: Global, graph: &G, query: &Query) -> Result<Re
 ///
 /// It takes memory for the reply, and for what the query's kind needs on the way; `Behind` and `Stats` take none. It
 /// scans nothing beside the graph's own calls: these are one for `since`, at most 22 for a user or a post and eight for
-/// the stats; a walk makes two a step, and rankings what `rank` and `explained` say.
+/// the stats; a walk and a similarity make two a step, and rankings what `rank`, `explained` and `order_scores` say.
 #[tactic(auto, unfolding(crate::specs::Reference::reply_of))]
 pub fn answer_on<G: Graph>(alloc: Global, graph: &G, query: &Query) -> Result<Reply, Memory>
     ensures exact { IfOk result (λ made. made ≡ reply_of query.now (G.shown graph.now)) }
