@@ -1,1 +1,4 @@
+pub mod Heard
 pub mod Reference
+pub mod Runs
+pub mod Sessions

@@ -1,0 +1,103 @@
+-- What is answered to an ask.
+use Rattle.std.proofs.Common.{◌≡◌, ◌⊎◌, inl, inr, ℕ, List, [], ◌∷◌, Option, Some, None, is_some, Result, Ok, Err, if◌then◌else◌, codes, refl, sym, ap, subst, Bor, Bool, true, false}
+use Rattle.gj_base.specs.declared.ask.Ask.{Ask}
+use Rattle.gj_base.specs.declared.ask.Ask.TheVariants.{Items}
+use Rattle.gj_base.specs.declared.ask.Query.{Query}
+use Rattle.gj_base.specs.declared.ask.Route.{Route}
+use Rattle.gj_base.specs.declared.ask.Route.TheVariants as routes
+use Rattle.gj_base.specs.declared.history.History.{History}
+use Rattle.gj_base.specs.declared.history.Shown.{Shown}
+use Rattle.gj_base.specs.declared.item.Item.{Item}
+use Rattle.gj_base.specs.Configuration.{Configuration}
+use Rattle.gj_http.specs.Request.{Request}
+use Rattle.gj_http.specs.Routes.{found_of, Routed, at_end, at_part, is_part, first_of, route_of, after, under_method, is_method, is_get}
+use Rattle.gj_http.specs.declared.message.Method.{Method}
+use Rattle.std.specs.Option.{option_copied}
+use Rattle.gj_http.specs.declared.found.RouteError.{RouteError}
+use Rattle.gj_http.specs.declared.found.RouteError.TheVariants.{WrongMethod}
+use Rattle.gj_reply.specs.declared.fixed.Fixed.{Fixed}
+use Rattle.gj_reply.specs.declared.fixed.Fixed.TheVariants.{Memory}
+use Rattle.gj_reply.specs.declared.reply.Reply.{Reply}
+use Rattle.gj_request.specs.Requests.{asked, has_id}
+use Rattle.gj_request.specs.declared.refusal.Refusal.{Refusal}
+use Rattle.gj_session.specs.Heard.{heard, lack_of, by_body, lack_at, route_reply}
+use Rattle.gj_session.specs.Reference.{reply_of}
+use Rattle.gj_session.proofs.AnswerLemmas.{of_reply}
+use Rattle.gj_session.specs.Runs.{Answers, AnswersAsk, AnswersBatch, IsReply, store_count, is_store}
+use Rattle.gj_session.specs.declared.outcome.Outcome.{Outcome}
+use Rattle.gj_session.specs.declared.outcome.Outcome.TheVariants.{Says}
+
+-- no query is answered by the store's fault
+pub never_store : (query : Query) (w : Shown) → is_store (Says (reply_of query w)) ≡ false
+never_store query w = of_reply (λ r. is_store (Says r) ≡ false) (record {
+  behind = λ n. refl;
+  walk = λ n r. refl;
+  sub = λ n r. refl;
+  sim = λ n r. refl;
+  user = λ n id d r. refl;
+  post = λ n id d r. refl;
+  stats = λ n b c k. refl;
+}) query w
+
+-- a batch that was read, over what was made of it
+pub batch_found : (conf : Configuration) (seat : ℕ) (h : History) (read : Result Ask Refusal) (items : List Item) (lack at : Fixed) (a b : Outcome) (after : History → Type 0)
+    → read ≡ Ok (Items items) → lack ≡ at
+    → ((new : History) × (AnswersBatch seat h items lack a new × (AnswersBatch seat h items lack b new × after new)))
+    → (new : History) × (AnswersAsk conf seat h (by_body read) at a new × (AnswersAsk conf seat h (by_body read) at b new × after new))
+batch_found conf seat h read items lack at a b after e f p = rw (e, ← f) p
+
+-- a message with a route
+pub answers_found : (conf : Configuration) (seat : ℕ) (h : History) (m : Request) (route : Route) (id : Option (List ℕ)) (o : Outcome) (new : History)
+    → found_of m.method m.path ≡ Ok (route, id) → AnswersAsk conf seat h (by_body (asked route id m.body)) (lack_at route) o new → Answers conf seat h m o new
+unfolding Answers heard lack_of
+answers_found conf seat h m route id o new e a = rw e a
+
+-- a message without one
+pub answers_lost : (conf : Configuration) (seat : ℕ) (h : History) (m : Request) (why : RouteError) (o : Outcome)
+    → found_of m.method m.path ≡ Err why → IsReply (route_reply why) Memory o → Answers conf seat h m o h
+unfolding Answers heard lack_of
+answers_lost conf seat h m why o e a = rw e (a, refl)
+
+-- a route has an identifier exactly where its path ends in one
+abbrev HasId : Option Routed → Type 0
+HasId None = Unit {0}
+HasId (Some routed) = is_some routed.1 ≡ has_id routed.0
+
+at_end_id : (route : Route) (rest : Option (List ℕ)) → false ≡ has_id route → HasId (at_end route rest)
+at_end_id route None lacks = tt
+at_end_id route (Some []) lacks = lacks
+at_end_id route (Some (b ∷ rest)) lacks = tt
+
+at_part_id : (route : Route) (rest : Option (List ℕ)) → true ≡ has_id route → HasId (at_part route rest)
+at_part_id route None has = tt
+at_part_id route (Some rest) has = elim (is_part rest) as (λ t. HasId (if t then Some (route, Some rest) else None)) [ true ↦ has | false ↦ tt ]
+
+first_id : (a b : Option Routed) → HasId a → HasId b → HasId (first_of a b)
+first_id None b ha hb = hb
+first_id (Some routed) b ha hb = ha
+
+route_id : (path : List ℕ) → HasId (route_of path)
+route_id path =
+    first_id _ _ (at_end_id routes.Interactions (after (codes "/interactions") path) refl)
+    (first_id _ _ (at_end_id routes.Walk (after (codes "/walk") path) refl)
+    (first_id _ _ (at_end_id routes.Subgraph (after (codes "/subgraph") path) refl)
+    (first_id _ _ (at_end_id routes.Similar (after (codes "/similar") path) refl)
+    (first_id _ _ (at_part_id routes.User (after (codes "/users/") path) refl)
+    (first_id _ _ (at_part_id routes.Post (after (codes "/posts/") path) refl)
+    (at_end_id routes.Stats (after (codes "/stats") path) refl))))))
+
+chosen_id : (fits : Bool) (own routed : Routed) → is_some own.1 ≡ has_id own.0
+    → (let answer : Result Routed RouteError = if fits then Ok own else Err (WrongMethod (is_get own.0)) in answer ≡ Ok routed) → is_some routed.1 ≡ has_id routed.0
+chosen_id true own routed h e = (let same : own ≡ routed = cc in subst (λ (r : Routed). is_some r.1 ≡ has_id r.0) same h)
+chosen_id false own routed h e = cc
+
+under_id : (method : Method) (found : Option Routed) (routed : Routed) → HasId found → under_method method found ≡ Ok routed → is_some routed.1 ≡ has_id routed.0
+under_id method None routed h e = cc
+under_id method (Some own) routed h e = chosen_id (is_method (is_get own.0) method) own routed h e
+
+pub found_id : (method : Method) (path : List ℕ) (routed : Routed) → found_of method path ≡ Ok routed → is_some routed.1 ≡ has_id routed.0
+found_id method path routed e = under_id method (route_of path) routed (route_id path) e
+
+pub is_some-copied : (id : Option (Bor (List ℕ))) → is_some id ≡ is_some (option_copied id)
+is_some-copied None = refl
+is_some-copied (Some text) = refl
