@@ -5,14 +5,18 @@ mod devices;
 mod local;
 mod run_status;
 mod stores;
+#[cfg(test)]
+mod tests;
 
 use crate::devices::{StreamSink, StreamSource};
 use crate::local::run_local;
 use crate::run_status::RunStatus;
 use crate::stores::NoKeepers;
+use std::alloc::Global;
 use std::env;
 use std::io;
 use std::process::ExitCode;
+use std::rt::Env;
 
 /// The words after the program's name.
 fn words_of(rt: &(impl Env + Alloc<A = Global>)) -> io::Result<Vec<String>> {
@@ -24,9 +28,6 @@ fn words_of(rt: &(impl Env + Alloc<A = Global>)) -> io::Result<Vec<String>> {
     }
     Ok(words)
 }
-
-use std::alloc::Global;
-use std::rt::Env;
 
 fn main(rt: HostRuntime) -> ExitCode {
     let mut input = StreamSource::new(rt.stdin());
