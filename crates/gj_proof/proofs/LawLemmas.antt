@@ -1,15 +1,15 @@
 -- The law of rankings: order, distinct posts, and what is left out.
-use Rattle.std.proofs.Common.{◌≡◌, ℕ, zero, suc, ◌+◌, ◌-◌, ◌<◌, ◌≤◌, ◌∙◌, ◌++◌, ◌||◌, ◌&&◌, not, min, Bool, true, false, cond, nat_eq, eq-eqb, List, [], ◌∷◌, length, take, drop, get_or, filter, map, fold, ap, subst, sym, refl, arith, append-nil, append_assoc, IsTrue, All, AllPairs, Contains, inl, inr}
+use Rattle.std.proofs.Common.{◌≡◌, ℕ, zero, suc, ◌<◌, ◌≤◌, ◌∙◌, ◌++◌, ◌||◌, ◌&&◌, not, min, Bool, true, false, cond, nat_eq, eq-eqb, List, [], ◌∷◌, length, take, get_or, filter, map, fold, ap, sym, refl, arith, append-nil, IsTrue, All, Contains, inl, inr}
 use Rattle.std.specs.List.{list_any}
 use Rattle.std.specs.List.Sorted.{IsPermutation}
 use Rattle.std.proofs.lemmas.Bool.Decides.{nat_tests}
 use Rattle.std.proofs.lemmas.Bool.{cases_lt}
 use Rattle.std.proofs.lemmas.List.{length-take, get_or-take}
-use Rattle.std.proofs.lemmas.List.Elements.{All-nil, All-cons, All-head, All-tail, Contains-append_right, All-take, All-contains, Contains-get_or, All-contains_itself}
-use Rattle.std.proofs.lemmas.List.Sorted.{IsPermutation-refl, IsPermutation-sym, IsPermutation-cons, IsPermutation-trans, IsPermutation-middle, IsPermutation-append_left, length_permutation, Contains-permutation, All-permutation}
+use Rattle.std.proofs.lemmas.List.Elements.{All-nil, All-cons, All-head, All-tail, Contains-append_right, All-take, All-contains_itself}
+use Rattle.std.proofs.lemmas.List.Sorted.{IsPermutation-refl, IsPermutation-cons, IsPermutation-trans, IsPermutation-middle, IsPermutation-append_left, length_permutation, Contains-permutation, All-permutation}
 use Rattle.gj_base.specs.declared.item.Item.{Item}
 use Rattle.gj_base.specs.Asks.{are_distinct}
-use Rattle.gj_proof.specs.Ranking.{comes_before, placed, by_rank, NoneBefore, AreByRank, is_shown, unexplained, ranked_of}
+use Rattle.gj_proof.specs.Ranking.{comes_before, placed, by_rank, AreByRank, is_shown, unexplained, ranked_of}
 use Rattle.gj_proof.specs.Laws.{IsRanking, pair_of, posts_of}
 use Rattle.gj_proof.proofs.RankLemmas.{none_before_at, by_rank_placed, by_rank_take, by_rank_empty}
 

@@ -32,9 +32,13 @@ unfoldable pub AreByRank : List (ℕ × ℕ) → Type 0
 AreByRank [] = Unit {0}
 AreByRank (first ∷ rest) = NoneBefore first rest × AreByRank rest
 
+-- a seed has an eligible interaction with the post
+unfoldable pub meets : List Item → List ℕ → Mask → ℕ → Bool
+meets items seeds mask post = list_any (λ seed. leads_to (ends items User seed mask) post) seeds
+
 -- a seed has an interaction of any kind with the post
 unfoldable pub is_known : List Item → List ℕ → ℕ → Bool
-is_known items seeds post = list_any (λ seed. leads_to (ends items User seed all_kinds) post) seeds
+is_known items seeds post = meets items seeds all_kinds post
 
 -- a pair may be shown: nothing is hidden, or no seed knows its post
 abbrev pub is_shown : List Item → List ℕ → Bool → ℕ × ℕ → Bool

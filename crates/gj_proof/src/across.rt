@@ -4,7 +4,7 @@ ghost use Rattle.std.specs.Prelude.{nat_eq, ◌==◌};
 ghost use Rattle.std.specs.HashSet.{contains};
 ghost use Rattle.gj_base.specs.Ends.{ends};
 ghost use Rattle.gj_proof.specs.Proofs.{leads_to};
-ghost use Rattle.gj_proof.specs.Ranking.{is_known};
+ghost use Rattle.gj_proof.specs.Ranking.{is_known, meets};
 
 use gj_base::{Graph, IdList, Mask, Memory, Side};
 use std::alloc::Global;
@@ -50,6 +50,7 @@ pub fn has_end<G: Graph>(graph: &G, side: Side, id: u64, mask: Mask, other: u64)
 }
 
 /// The posts that a seed user knows, where they are to be hidden.
+#[tactic(auto, unfolding(crate::specs::Ranking::is_known))]
 pub fn hidden_posts<G: Graph>(
     alloc: Global,
     graph: &G,
@@ -60,17 +61,22 @@ pub fn hidden_posts<G: Graph>(
 {
     let mut posts = HashSet::new(alloc);
     if hide {
-        add_known(graph, seeds.as_slice(), &mut posts)?;
+        add_known(graph, seeds.as_slice(), Mask::all(), &mut posts)?;
     }
     Ok(posts)
 }
 
-/// Puts the posts that a seed user knows into the set.
-fn add_known<G: Graph>(graph: &G, seeds: &[u64], posts: &mut HashSet<u64>) -> Result<(), Memory>
-    ensures { OnOk result ((post : ℕ) → contains nat_eq posts.new post ≡ (contains nat_eq posts.old post || is_known (G.shown graph.now).items seeds.now post)) }
+/// Puts the posts with which a seed user has an eligible interaction into the set.
+fn add_known<G: Graph>(
+    graph: &G,
+    seeds: &[u64],
+    mask: Mask,
+    posts: &mut HashSet<u64>,
+) -> Result<(), Memory>
+    ensures { OnOk result ((post : ℕ) → contains nat_eq posts.new post ≡ (contains nat_eq posts.old post || meets (G.shown graph.now).items seeds.now mask post)) }
 {
     for seed in seeds {
-        add_ends(graph, Side::User, *seed, Mask::all(), posts)?;
+        add_ends(graph, Side::User, *seed, mask, posts)?;
     }
     Ok(())
 }

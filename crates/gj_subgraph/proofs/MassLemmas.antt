@@ -1,5 +1,5 @@
 -- From the window to the masses.
-use Rattle.std.proofs.Common.{◌≡◌, ℕ, zero, suc, ◌+◌, ◌-◌, ◌*◌, ◌<◌, ◌≤◌, ◌∙◌, ◌++◌, ◌||◌, ◌&&◌, Bool, true, false, cond, nat_eq, List, [], ◌∷◌, length, fold, sum, sum_by, take, get_or, map, filter, replicate, slice_get, Some, ap, sym, refl, arith}
+use Rattle.std.proofs.Common.{◌≡◌, ℕ, zero, suc, ◌+◌, ◌<◌, ◌≤◌, ◌∙◌, ◌++◌, ◌||◌, ◌&&◌, Bool, true, false, cond, nat_eq, List, [], ◌∷◌, length, fold, sum_by, take, get_or, map, filter, replicate, slice_get, Some, ap, sym, refl, arith}
 use Rattle.std.proofs.lemmas.List.{take_more}
 use Rattle.std.proofs.lemmas.List.Sums.{sum_by-cons, fold_more}
 use Rattle.std.proofs.lemmas.Option.{get_or_from_slice_get, slice_get_within}
@@ -12,7 +12,7 @@ use Rattle.gj_subgraph.specs.Masses.{stands_in, count_of, edges_of, users_of, po
 use Rattle.gj_subgraph.specs.Numbers.{units_in}
 use Rattle.gj_subgraph.proofs.CountLemmas.{bit, Every, every_weaker, count_cons, count_stands, vertices_once, vertices_from}
 use Rattle.gj_subgraph.proofs.LawLemmas.{sum_same, sum_plus, sum_pick}
-use Rattle.gj_subgraph.proofs.NumberLemmas.{Distinct, vertices_distinct, take_whole}
+use Rattle.gj_subgraph.proofs.NumberLemmas.{Distinct, vertices_distinct}
 use Rattle.gj_subgraph.proofs.StepLemmas.{stands_vertices, units_at}
 
 -- edges

@@ -1,14 +1,12 @@
 -- A half step, edge by edge.
-use Rattle.std.proofs.Common.{◌≡◌, ℕ, zero, suc, ◌+◌, ◌-◌, ◌*◌, ◌/◌, ◌%◌, ◌<◌, ◌≤◌, ◌∙◌, ◌++◌, ◌||◌, min, Bool, true, false, cond, nat_eq, nat_lt, List, [], ◌∷◌, length, fold, sum, sum_by, take, drop, get_or, set, ap, sym, refl, arith, inl, inr, append_assoc, append-nil, length-set}
-use Rattle.std.proofs.lemmas.Bool.{cases_lt}
+use Rattle.std.proofs.Common.{◌≡◌, ℕ, zero, suc, ◌+◌, ◌-◌, ◌/◌, ◌%◌, ◌<◌, ◌≤◌, ◌∙◌, ◌++◌, ◌||◌, min, Bool, true, false, cond, nat_eq, nat_lt, List, [], ◌∷◌, length, sum, sum_by, take, drop, get_or, set, ap, sym, refl, arith, append_assoc, append-nil, length-set}
 use Rattle.std.proofs.lemmas.Bool.Decides.{nat_tests}
 use Rattle.std.proofs.lemmas.List.{take_more, length-take, take-append-drop}
 use Rattle.std.proofs.lemmas.List.Sums.{sum_by-cons, sum_by-append}
 use mathlib.Core.Path.{fun_ext}
-use Rattle.gj_subgraph.specs.declared.vertices.Vertices.{Vertices}
 use Rattle.gj_subgraph.specs.Masses.{stands_in, count_of, carried, carried_after, arrived, half_step, vertices}
-use Rattle.gj_subgraph.specs.Numbers.{ArePlaced, AreDegrees, AreNumbered, units_in}
-use Rattle.gj_subgraph.proofs.CountLemmas.{bit, eqb_sym, Every, Covers, eqb_self, count_cons, count_stands, vertices_once, vertices_stand, vertices_cover}
+use Rattle.gj_subgraph.specs.Numbers.{ArePlaced, AreDegrees, units_in}
+use Rattle.gj_subgraph.proofs.CountLemmas.{bit, eqb_sym, Every, eqb_self, count_cons, count_stands, vertices_once, vertices_stand, vertices_cover}
 use Rattle.gj_subgraph.proofs.LawLemmas.{length_carried, near_sum, step_sum}
 use Rattle.gj_subgraph.proofs.NumberLemmas.{Distinct, vertices_distinct, count_more, added_at, taken_at, take_whole, stands_at, told_bit}
 

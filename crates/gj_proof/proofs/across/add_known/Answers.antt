@@ -2,20 +2,19 @@ use Rattle.std.proofs.Common.{sym}
 use Rattle.std.proofs.Math.Bool.{or-false}
 use Rattle.std.proofs.lemmas.List.Folds.{list_any_more}
 use Rattle.gj_base.specs.Ends.{ends}
-use Rattle.gj_base.specs.Kinds.{all_kinds}
 use Rattle.gj_base.specs.declared.side.Side.TheVariants.{User}
 use Rattle.gj_proof.specs.Proofs.{leads_to}
-use Rattle.gj_proof.specs.Ranking.{is_known}
+use Rattle.gj_proof.specs.Ranking.{meets}
 use Rattle.gj_proof.proofs.EndsLemmas.{or_more}
 use Rattle.gj_proof.proofs.across.add_known.Goals as goal
 
 pub loop-seed-init : goal.loop-seed-init
-unfolding is_known
+unfolding meets
 loop-seed-init g c = λ post. sym (or-false _)
 
 pub loop-seed-preserved : goal.loop-seed-preserved
-unfolding is_known
+unfolding meets
 loop-seed-preserved g c = λ post.
     let items = (g.G.Graph.shown c.args.graph.now).items in
-    or_more _ _ _ _ _ _ (rw c.all.ensures.exact at (c.in_ok-add_ends.ensures post)) (c.loop-seed.invariant post)
-    (list_any_more (λ seed. leads_to (ends items User seed all_kinds) post) c.args.seeds.now c.loop-seed.seed-index 0 c.loop-seed-test.true)
+    or_more _ _ _ _ _ _ (c.in_ok-add_ends.ensures post) (c.loop-seed.invariant post)
+    (list_any_more (λ seed. leads_to (ends items User seed c.args.mask) post) c.args.seeds.now c.loop-seed.seed-index 0 c.loop-seed-test.true)

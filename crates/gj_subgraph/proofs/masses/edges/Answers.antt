@@ -1,8 +1,5 @@
-use Rattle.std.proofs.Common.{◌≡◌, ◌+◌, ◌-◌, ◌≤◌, ℕ, ◌∙◌, ap, sym, cond, take, arith, nat_eq, ◌&&◌, ◌++◌, ◌∷◌, []}
-use Rattle.std.specs.HashSet.{contains}
-use Rattle.gj_base.specs.Ends.{passes}
-use Rattle.gj_subgraph.specs.Masses.{edges_of, users_of, posts_of, stands_in}
-use Rattle.gj_subgraph.proofs.MassLemmas.{edges_more, edges_none, edges_all}
+use Rattle.std.proofs.Common.{◌≡◌, ◌+◌, ◌-◌, ◌∙◌, sym, arith}
+use Rattle.gj_subgraph.proofs.MassLemmas.{edges_more, edges_none}
 use Rattle.gj_subgraph.proofs.masses.edges.Goals as goal
 
 pub loop-place-init : goal.loop-place-init

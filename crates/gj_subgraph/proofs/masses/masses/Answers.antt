@@ -1,4 +1,4 @@
-use Rattle.std.proofs.Common.{ℕ, ◌<◌, length, sym}
+use Rattle.std.proofs.Common.{◌<◌, length}
 use Rattle.gj_subgraph.proofs.NumberLemmas.{Distinct, vertices_distinct}
 use Rattle.gj_subgraph.proofs.MassLemmas.{mass_more}
 use Rattle.gj_subgraph.proofs.masses.masses.Goals as goal

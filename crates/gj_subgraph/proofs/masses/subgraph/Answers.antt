@@ -1,4 +1,4 @@
-use Rattle.std.proofs.Common.{◌≡◌, ◌≤◌, ◌-◌, ◌*◌, ◌∙◌, ap, sym, arith, length, fold, [], List, ℕ}
+use Rattle.std.proofs.Common.{◌-◌, ◌*◌, ◌∙◌, ap, arith, length, fold, []}
 use Rattle.gj_subgraph.specs.Masses.{edges_of, users_of, posts_of, vertices, masses_of, with_mass, spread, starting}
 use Rattle.gj_subgraph.specs.Numbers.{units_in}
 use Rattle.gj_subgraph.proofs.LawLemmas.{total_law}

@@ -1,4 +1,4 @@
-use Rattle.std.proofs.Common.{◌≡◌, ◌+◌, ◌-◌, ◌*◌, ◌<◌, ◌^◌, suc, sum, replicate, ℕ, ◌∙◌, ap, sym, arith, rules, length}
+use Rattle.std.proofs.Common.{◌≡◌, ◌+◌, ◌-◌, ◌*◌, suc, sum, ◌∙◌, ap, sym, arith, rules, length}
 use Rattle.std.proofs.lemmas.List.Folds.{sum_by-replicate}
 use Rattle.gj_subgraph.specs.Masses.{spread, starting, half_step}
 use Rattle.gj_subgraph.specs.Numbers.{units_in}

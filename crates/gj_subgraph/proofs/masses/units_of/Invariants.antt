@@ -1,4 +1,4 @@
-use Rattle.std.proofs.Common.{◌≡◌, ◌-◌, ◌*◌, ◌<◌, ◌≤◌, ◌^◌, length, sum}
+use Rattle.std.proofs.Common.{◌≡◌, ◌-◌, ◌*◌, ◌<◌, ◌^◌, length, sum}
 use Rattle.gj_subgraph.specs.Masses.{spread, starting}
 use Rattle.gj_subgraph.specs.Numbers.{units_in}
 use Rattle.gj_subgraph.proofs.masses.units_of.Given as goal

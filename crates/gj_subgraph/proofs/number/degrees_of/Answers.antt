@@ -1,4 +1,4 @@
-use Rattle.std.proofs.Common.{◌≡◌, ◌<◌, length, take, get_or, arith}
+use Rattle.std.proofs.Common.{◌<◌, length, take, get_or, arith}
 use Rattle.std.proofs.lemmas.List.{take_more}
 use Rattle.gj_subgraph.proofs.NumberLemmas.{Distinct, counted_push, degree_le, vertices_distinct}
 use Rattle.gj_subgraph.proofs.number.degrees_of.Goals as goal

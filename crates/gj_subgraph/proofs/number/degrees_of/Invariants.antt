@@ -1,4 +1,4 @@
-use Rattle.std.proofs.Common.{◌≡◌, ℕ, ◌<◌, length, take}
+use Rattle.std.proofs.Common.{take}
 use Rattle.gj_subgraph.specs.Numbers.{AreDegrees}
 use Rattle.gj_subgraph.proofs.number.degrees_of.Given as goal
 

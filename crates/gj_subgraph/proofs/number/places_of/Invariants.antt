@@ -1,4 +1,4 @@
-use Rattle.std.proofs.Common.{◌≡◌, ℕ, ◌<◌, [], length, take, fold, get_or}
+use Rattle.std.proofs.Common.{◌≡◌, [], take, fold}
 use Rattle.gj_subgraph.specs.Masses.{with_vertex}
 use Rattle.gj_subgraph.specs.Numbers.{AreNumbers, ArePlaced}
 use Rattle.gj_subgraph.proofs.number.places_of.Given as goal

@@ -1,5 +1,4 @@
-use Rattle.std.proofs.Common.{ℕ, ◌<◌, ◌≤◌, ◌≡◌, ◌+◌, ◌/◌, ◌%◌, min, length, get_or, take, sum, arith, sym, ◌∙◌}
-use Rattle.gj_subgraph.specs.Masses.{half_step, carried, vertices}
+use Rattle.std.proofs.Common.{◌<◌, ◌≤◌, ◌≡◌, length, get_or, arith, ◌∙◌}
 use Rattle.gj_subgraph.specs.Numbers.{units_in}
 use Rattle.gj_subgraph.proofs.NumberLemmas.{Distinct, vertices_distinct}
 use Rattle.gj_subgraph.proofs.StepLemmas.{degree_above, stepped_none, stepped_more, stepped_all, kept_sum, more_named, next_part, fits_next, whole_sum}
