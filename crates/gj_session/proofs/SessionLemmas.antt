@@ -153,11 +153,17 @@ ends_then Truncated told w0 w1 w2 rest a b quiet x y = (open_then told w0 w1 w2 
 ends_then ReadFault told w0 w1 w2 rest a b quiet x y = open_then told w0 w1 w2 rest a b quiet x y
 ends_then Turns told w0 w1 w2 rest a b quiet x y = open_then told w0 w1 w2 rest a b quiet x y
 ends_then Closed told w0 w1 w2 rest a b quiet x y = (closes_last_then a b quiet y.0, wrote_then told w0 w1 w2 a b x y.1)
-ends_then (Stopped why) told w0 w1 w2 rest a b quiet x y = (closes_then a b quiet y.0, (y.1.0, record {
-  outcome = y.1.1.outcome;
-  reply = y.1.1.reply;
-  wrote = λ t. y.1.1.wrote t ∙ ap (λ (w : List ℕ). w ++ outcome_bytes y.1.1.outcome true) (before_part told w0 w1 a b x t);
-}))
+ends_then (Stopped why) told w0 w1 w2 rest a b quiet x y = (
+  closes_then a b quiet y.0,
+  (
+    y.1.0,
+    record {
+      outcome = y.1.1.outcome;
+      reply = y.1.1.reply;
+      wrote = λ t. y.1.1.wrote t ∙ ap (λ (w : List ℕ). w ++ outcome_bytes y.1.1.outcome true) (before_part told w0 w1 a b x t);
+    },
+  ),
+)
 ends_then WriteFault told w0 w1 w2 rest a b quiet x (inl y) = inl (cut_answer_then told w0 w1 w2 a b quiet x y)
 ends_then WriteFault told w0 w1 w2 rest a b quiet x (inr y) = inr (cut_refusal_then told w0 w1 w2 rest a b quiet x y)
 
@@ -193,8 +199,9 @@ one_goes conf k0 k1 f0 f1 told w0 w1 bytes rest m is a = record {
 one_ends : (end : End) (told : Type 0) (w0 w1 rest : List ℕ) (m : Request) (o : Outcome)
     → Leaves (Some end) m.close told w0 w1 (outcome_bytes o m.close) → Ends end told w0 w1 (record { message = m; outcome = o } ∷ []) rest
 one_ends Closed told w0 w1 rest m o l = (
-    record { done = []; last = record { message = m; outcome = o }; parts = refl; quiet = refl; closes = l.0 },
-    λ t. l.1 t ∙ ap (λ (w : List ℕ). w0 ++ w) (sym (append-nil (outcome_bytes o m.close))))
+  record { done = []; last = record { message = m; outcome = o }; parts = refl; quiet = refl; closes = l.0 },
+  λ t. l.1 t ∙ ap (λ (w : List ℕ). w0 ++ w) (sym (append-nil (outcome_bytes o m.close))),
+)
 one_ends WriteFault told w0 w1 rest m o l = inl (record {
   done = [];
   last = record { message = m; outcome = o };
@@ -219,11 +226,17 @@ one_ended conf k0 k1 f0 f1 told w0 w1 bytes rest m end is a = record {
 }
 
 refusal_ends : (end : End) (told : Type 0) (w0 w1 rest : List ℕ) (why : Refused) → IsRefused rest why → RefusalEnds end told w0 w1 why → Ends end told w0 w1 [] rest
-refusal_ends (Stopped which) told w0 w1 rest why is r = (refl, (subst (λ (x : Refused). IsRefused rest x) (sym r.0) is, record {
-  outcome = r.1.0;
-  reply = subst (λ (x : Refused). IsFraming x r.1.0) (sym r.0) r.1.1.0;
-  wrote = λ t. r.1.1.1 t ∙ ap (λ (w : List ℕ). w ++ outcome_bytes r.1.0 true) (sym (append-nil w0));
-}))
+refusal_ends (Stopped which) told w0 w1 rest why is r = (
+  refl,
+  (
+    subst (λ (x : Refused). IsRefused rest x) (sym r.0) is,
+    record {
+      outcome = r.1.0;
+      reply = subst (λ (x : Refused). IsFraming x r.1.0) (sym r.0) r.1.1.0;
+      wrote = λ t. r.1.1.1 t ∙ ap (λ (w : List ℕ). w ++ outcome_bytes r.1.0 true) (sym (append-nil w0));
+    },
+  ),
+)
 refusal_ends WriteFault told w0 w1 rest why is r = inr (record {
   why = why;
   refused = is;

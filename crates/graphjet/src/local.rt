@@ -18,6 +18,7 @@ const TURNS: u64 = 1_099_511_627_776;
 
 /// The interactions of a segment, and the segments of the window.
 const CAPACITY: u32 = 4096;
+
 const SEGMENTS: u32 = 4;
 
 /// What a session stands on.
@@ -78,24 +79,23 @@ fn replay<S: Source, O: Sink>(alloc: Global, input: &mut S, out: &mut O) -> RunS
 {
     match make_parts(alloc) {
         Err(Memory) => RunStatus::Memory,
-        Ok(Parts {
-            mut index,
-            routes,
-            mut framer,
-        }) => status_of(replay_session(
-            alloc,
-            &mut index,
-            &routes,
-            &mut framer,
-            input,
-            out,
-            TURNS,
-        )),
+        Ok(
+            Parts {
+                mut index,
+                routes,
+                mut framer,
+            },
+        ) => status_of(replay_session(alloc, &mut index, &routes, &mut framer, input, out, TURNS)),
     }
 }
 
 /// Does what the words ask for.
-fn obey<S: Source, O: Sink>(alloc: Global, words: &[String], input: &mut S, out: &mut O) -> RunStatus
+fn obey<S: Source, O: Sink>(
+    alloc: Global,
+    words: &[String],
+    input: &mut S,
+    out: &mut O,
+) -> RunStatus
     ensures usage { (result ≡ RunStatus.Usage) ↔ (IsReplay (map (λ w. string_bytes w) words.now) → ⊥) }
     ensures untouched { (result ≡ RunStatus.Usage) ⊎ (result ≡ RunStatus.Memory) → (input.new ≡ input.old) × (out.new ≡ out.old) }
     ensures headline { result ≢ RunStatus.Usage → result ≢ RunStatus.Memory → Headline (IsTrue (S.tells input.old)) (IsTrue (O.tells out.old))

@@ -13,10 +13,9 @@ use crate::local::run_local;
 use crate::run_status::RunStatus;
 use crate::stores::NoKeepers;
 use std::alloc::Global;
-use std::env;
-use std::io;
 use std::process::ExitCode;
 use std::rt::Env;
+use std::{env, io};
 
 /// The words after the program's name.
 fn words_of(rt: &(impl Env + Alloc<A = Global>)) -> io::Result<Vec<String>> {
@@ -35,7 +34,14 @@ fn main(rt: HostRuntime) -> ExitCode {
     let mut err = StreamSink::new(rt.stderr());
     let mut stores = NoKeepers::new();
     let status = match words_of(&rt) {
-        Ok(words) => run_local(rt.alloc(), &words, &mut input, &mut out, &mut err, &mut stores),
+        Ok(words) => run_local(
+            rt.alloc(),
+            &words,
+            &mut input,
+            &mut out,
+            &mut err,
+            &mut stores,
+        ),
         Err(_) => RunStatus::Memory.code(),
     };
     ExitCode::from(status)

@@ -9,14 +9,16 @@ use gj_session::{End, replay_session};
 use std::alloc::Global;
 use std::test::Fail;
 
-const POST: &[u8] = b"POST /interactions HTTP/1.1\r\nContent-Length: 50\r\n\r\n{\"items\":[{\"user\":1,\"post\":10,\"kind\":\"favorite\"}]}";
+const POST: &[u8] =
+    b"POST /interactions HTTP/1.1\r\nContent-Length: 50\r\n\r\n{\"items\":[{\"user\":1,\"post\":10,\"kind\":\"favorite\"}]}";
 
-const WALK: &[u8] =
-    b"POST /walk HTTP/1.1\r\nContent-Length: 23\r\n\r\n{\"seeds\":[1],\"steps\":6}";
+const WALK: &[u8] = b"POST /walk HTTP/1.1\r\nContent-Length: 23\r\n\r\n{\"seeds\":[1],\"steps\":6}";
 
-const POSTED: &[u8] = b"HTTP/1.1 200 OK\r\nContent-Type: application/json\r\nContent-Length: 21\r\nConnection: keep-alive\r\n\r\n{\"from\":0,\"length\":1}";
+const POSTED: &[u8] =
+    b"HTTP/1.1 200 OK\r\nContent-Type: application/json\r\nContent-Length: 21\r\nConnection: keep-alive\r\n\r\n{\"from\":0,\"length\":1}";
 
-const WALKED: &[u8] = b"HTTP/1.1 200 OK\r\nContent-Type: application/json\r\nContent-Length: 59\r\nConnection: keep-alive\r\n\r\n{\"length\":1,\"results\":[{\"post\":10,\"visits\":3,\"proof\":[1]}]}";
+const WALKED: &[u8] =
+    b"HTTP/1.1 200 OK\r\nContent-Type: application/json\r\nContent-Length: 59\r\nConnection: keep-alive\r\n\r\n{\"length\":1,\"results\":[{\"post\":10,\"visits\":3,\"proof\":[1]}]}";
 
 /// What a run left.
 #[derive(Drop)]
@@ -63,7 +65,14 @@ fn the_first_path_is_answered_however_it_comes(rt: HostRuntime) -> Result<(), Fa
     let alloc = rt.alloc();
     let replies = joined(alloc, POSTED, WALKED)?;
     for read in 1..200 {
-        let ran = ran(alloc, "replay", joined(alloc, POST, WALK)?, read, 4096, [0; 3])?;
+        let ran = ran(
+            alloc,
+            "replay",
+            joined(alloc, POST, WALK)?,
+            read,
+            4096,
+            [0; 3],
+        )?;
         assert_eq!(rt; ran.status, 0, "by {read}");
         assert_eq!(rt; ran.out.written(), replies.as_slice(), "by {read}");
         assert!(rt; ran.err.written().is_empty(), "by {read}");
@@ -91,7 +100,11 @@ fn a_message_that_is_cut_gets_no_reply(rt: HostRuntime) -> Result<(), Fail> {
             (0, replies.len())
         };
         assert_eq!(rt; ran.status, status, "cut at {cut}");
-        assert_eq!(rt; ran.out.written(), &replies[..written.min(replies.len())], "cut at {cut}");
+        assert_eq!(rt;
+            ran.out.written(),
+            &replies[..written.min(replies.len())],
+            "cut at {cut}"
+        );
         assert_eq!(rt; ran.err.written().is_empty(), status == 0, "cut at {cut}");
     }
     Ok(())
@@ -113,7 +126,14 @@ fn a_fault_ends_the_session_by_its_status(rt: HostRuntime) -> Result<(), Fail> {
     assert_eq!(rt; write.out.written(), b"HTTP/1.1 2".as_slice());
     assert_eq!(rt; write.err.written(), b"write fault\n".as_slice());
 
-    let err = ran(alloc, "replay", POST[..100].to_vec(alloc)?, 4096, 4096, [0, 0, 1])?;
+    let err = ran(
+        alloc,
+        "replay",
+        POST[..100].to_vec(alloc)?,
+        4096,
+        4096,
+        [0, 0, 1],
+    )?;
     assert_eq!(rt; err.status, 6);
     assert!(rt; err.out.written().is_empty());
     assert!(rt; err.err.written().is_empty());
@@ -123,10 +143,20 @@ fn a_fault_ends_the_session_by_its_status(rt: HostRuntime) -> Result<(), Fail> {
 #[test]
 fn other_words_are_no_command(rt: HostRuntime) -> Result<(), Fail> {
     let alloc = rt.alloc();
-    let ran = ran(alloc, "replays", joined(alloc, POST, WALK)?, 4096, 4096, [0; 3])?;
+    let ran = ran(
+        alloc,
+        "replays",
+        joined(alloc, POST, WALK)?,
+        4096,
+        4096,
+        [0; 3],
+    )?;
     assert_eq!(rt; ran.status, 2);
     assert!(rt; ran.out.written().is_empty());
-    assert_eq!(rt; ran.err.written(), b"usage: graphjet replay|serve|load [options]\n".as_slice());
+    assert_eq!(rt;
+        ran.err.written(),
+        b"usage: graphjet replay|serve|load [options]\n".as_slice()
+    );
     Ok(())
 }
 
@@ -139,7 +169,15 @@ fn a_session_ends_after_its_turns(rt: HostRuntime) -> Result<(), Fail> {
     let mut framer = Framer::new(alloc)?;
     let mut input = MemorySource::new(POST.to_vec(alloc)?, 1, Vec::new(alloc));
     let mut out = MemorySink::new(alloc, 4096, 4096, Vec::new(alloc))?;
-    let end = replay_session(alloc, &mut index, &routes, &mut framer, &mut input, &mut out, 3);
+    let end = replay_session(
+        alloc,
+        &mut index,
+        &routes,
+        &mut framer,
+        &mut input,
+        &mut out,
+        3,
+    );
     assert_eq!(rt; end, End::Turns);
     assert!(rt; out.written().is_empty());
     Ok(())

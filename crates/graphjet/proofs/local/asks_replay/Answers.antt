@@ -12,8 +12,7 @@ head_same a b e = cc
 pub returns-in-len1 : goal.returns-in-len1
 returns-in-len1 c =
     let one = one_item c.args.words.now c.word-item.result c.in-len1.len_at_least c.in-len1.len_below c.word-item.is in
-    let texts = ap (map string_bytes) one in
-    (
+    let texts = ap (map string_bytes) one in (
       λ t. texts ∙ ap (λ (b : List ℕ). b ∷ []) (sym c.as_str.ensures.value ∙ c.is_replay.ensures.0 t),
       λ e. c.is_replay.ensures.1 (c.as_str.ensures.value ∙ head_same (string_bytes c.word-item.result) (codes "replay") (sym texts ∙ e)),
     )
