@@ -38,7 +38,7 @@ fn joined(alloc: Global, first: &[u8], second: &[u8]) -> Result<Vec<u8>, Fail> {
 
 /// A run over the word, whose source gives `read` bytes a call and whose sink takes `write`; the calls with these numbers
 /// fail, and none with the number 0.
-fn ran(
+fn run_with(
     alloc: Global,
     word: &str,
     input: Vec<u8>,
@@ -65,7 +65,7 @@ fn the_first_path_is_answered_however_it_comes(rt: HostRuntime) -> Result<(), Fa
     let alloc = rt.alloc();
     let replies = joined(alloc, POSTED, WALKED)?;
     for read in 1..200 {
-        let ran = ran(
+        let ran = run_with(
             alloc,
             "replay",
             joined(alloc, POST, WALK)?,
@@ -87,7 +87,7 @@ fn a_message_that_is_cut_gets_no_reply(rt: HostRuntime) -> Result<(), Fail> {
     let replies = joined(alloc, POSTED, WALKED)?;
     for cut in 0..whole.len() + 1 {
         let input = whole[..cut].to_vec(alloc)?;
-        let ran = ran(alloc, "replay", input, 4096, 4096, [0; 3])?;
+        let ran = run_with(alloc, "replay", input, 4096, 4096, [0; 3])?;
         let (status, written) = if cut == 0 {
             (0, 0)
         } else if cut < POST.len() {
@@ -116,17 +116,17 @@ fn a_fault_ends_the_session_by_its_status(rt: HostRuntime) -> Result<(), Fail> {
     let whole = joined(alloc, POST, WALK)?;
     let replies = joined(alloc, POSTED, WALKED)?;
 
-    let read = ran(alloc, "replay", whole.clone()?, 4096, 4096, [2, 0, 0])?;
+    let read = run_with(alloc, "replay", whole.clone()?, 4096, 4096, [2, 0, 0])?;
     assert_eq!(rt; read.status, 3);
     assert_eq!(rt; read.out.written(), replies.as_slice());
     assert_eq!(rt; read.err.written(), b"read fault\n".as_slice());
 
-    let write = ran(alloc, "replay", whole, 4096, 10, [0, 2, 0])?;
+    let write = run_with(alloc, "replay", whole, 4096, 10, [0, 2, 0])?;
     assert_eq!(rt; write.status, 4);
     assert_eq!(rt; write.out.written(), b"HTTP/1.1 2".as_slice());
     assert_eq!(rt; write.err.written(), b"write fault\n".as_slice());
 
-    let err = ran(
+    let err = run_with(
         alloc,
         "replay",
         POST[..100].to_vec(alloc)?,
@@ -143,7 +143,7 @@ fn a_fault_ends_the_session_by_its_status(rt: HostRuntime) -> Result<(), Fail> {
 #[test]
 fn other_words_are_no_command(rt: HostRuntime) -> Result<(), Fail> {
     let alloc = rt.alloc();
-    let ran = ran(
+    let ran = run_with(
         alloc,
         "replays",
         joined(alloc, POST, WALK)?,
