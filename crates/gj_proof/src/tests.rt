@@ -8,7 +8,7 @@ fn graph_of(rt: &(impl Abort + AllocGlobal), edges: &[(u64, u64, Kind)]) -> List
         panic!(rt; "no memory");
     };
     for (user, post, kind) in edges {
-        let item = Item::make(*user, *post, *kind).expect(rt, "an interaction");
+        let item = Item::make(*user, *post, *kind, 0).expect(rt, "an interaction");
         assert!(rt; graph.length() < 16);
         graph.add(item);
     }

@@ -7,7 +7,7 @@ use Rattle.gj_base.specs.declared.item.Item.{Item}
 use Rattle.gj_base.specs.declared.side.Side.TheVariants as side
 use Rattle.gj_base.specs.Draw.{end_picked}
 use Rattle.gj_base.specs.Ends.{ends}
-use Rattle.gj_base.specs.KindSet.{KindSet}
+use Rattle.gj_base.specs.Filter.{Filter}
 use Rattle.gj_base.specs.Tally.{number_at, tally}
 use Rattle.gj_base.proofs.TallyLemmas.{is_tally-tally, number_at-tally, number_at-pair, All-positive}
 use Rattle.gj_base.specs.Asks.{SimQuery}
@@ -81,7 +81,7 @@ All-counted P (x ∷ xs) post all some =
     (cases_eq x post)
 
 -- a tally of few posts that have ends may be scored
-pub scorable : {E : Type 0} (items : List Item) (mask : KindSet) (posts : List ℕ) (result : Result (List (ℕ × ℕ)) E)
+pub scorable : {E : Type 0} (items : List Item) (mask : Filter) (posts : List ℕ) (result : Result (List (ℕ × ℕ)) E)
     → length posts ≤ 50000 → All (λ post. 0 < length (ends items side.Post post mask)) posts
     → IfOk result (λ shared. shared ≡ tally posts) → IfOk result (AreScorable items mask)
 scorable items mask posts (Err e) few back is = tt

@@ -3,7 +3,7 @@ use Rattle.std.specs.Prelude.{ℕ, ◌<◌, ◌≤◌, ◌==◌, if◌then◌els
 use Rattle.std.specs.BTreeSet.{insert_key}
 use Rattle.gj_base.specs.declared.item.Item.{Item}
 use Rattle.gj_base.specs.declared.side.Side.TheVariants as side
-use Rattle.gj_base.specs.KindSet.{KindSet}
+use Rattle.gj_base.specs.Filter.{Filter}
 use Rattle.gj_base.specs.Asks.{SimQuery}
 use Rattle.gj_base.specs.Ends.{ends}
 use Rattle.gj_base.specs.Draw.{end_picked}
@@ -43,11 +43,11 @@ abbrev pub shared_of : List Item → SimQuery → List ℕ → List (ℕ × ℕ)
 shared_of items query words = tally (co_visited items query words Post)
 
 -- the score of a post with a number of co-visits
-abbrev pub score_at : List Item → KindSet → ℕ × ℕ → Scored
+abbrev pub score_at : List Item → Filter → ℕ × ℕ → Scored
 score_at items mask pair = record { co = pair.1; degree = length (ends items side.Post pair.0 mask); post = pair.0 }
 
 -- each post has an eligible interaction, and at most so many co-visits as half the steps
-abbrev pub AreScorable : List Item → KindSet → List (ℕ × ℕ) → Type 0
+abbrev pub AreScorable : List Item → Filter → List (ℕ × ℕ) → Type 0
 AreScorable items mask pairs = All (λ pair. (pair.1 ≤ 50000) × (0 < length (ends items side.Post pair.0 mask))) pairs
 
 -- the scores, the best first
@@ -55,7 +55,7 @@ abbrev pub in_order : List Scored → List Scored
 in_order scores = fold (insert_key score_cmp) [] scores
 
 -- the first scores of posts with numbers of co-visits
-unfoldable pub best_scores : List Item → KindSet → ℕ → List (ℕ × ℕ) → List Scored
+unfoldable pub best_scores : List Item → Filter → ℕ → List (ℕ × ℕ) → List Scored
 best_scores items mask top pairs = take top (in_order (map (score_at items mask) pairs))
 
 -- the first scores by these words

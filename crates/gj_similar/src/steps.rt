@@ -2,11 +2,12 @@
 ghost use Rattle.std.specs.Prelude.{◌≡◌, ◌<◌, ◌≤◌, [], ◌++◌, length, All, IfOk, OnOk, IfSome};
 ghost use Rattle.gj_base.specs.Draw.{words, after};
 ghost use Rattle.gj_base.specs.Ends.{ends};
+ghost use Rattle.gj_base.specs.Tally.{sum_of};
 ghost use Rattle.gj_similar.specs.declared.state.State.TheVariants.{Post};
 ghost use Rattle.gj_similar.specs.Similar.{step_of, shared_first, co_visited, shared_of, AreScorable};
 
 use crate::state::State;
-use gj_base::{Graph, Memory, Side, SimAsk, Tally, pick_end};
+use gj_base::{Graph, Memory, Side, SimAsk, Tally};
 use rand_core::utils::NextWord;
 use std::alloc::Global;
 
@@ -20,11 +21,11 @@ fn step<G: Graph>(graph: &G, ask: &SimAsk, word: u64, state: State) -> (Option<u
     ensures back { IfSome result.0 (λ post. 0 < length (ends (G.shown graph.now).items Side.Post post ask.now.mask)) }
 {
     match state {
-        State::Post => match pick_end(graph, Side::Post, ask.post, ask.mask, word) {
+        State::Post => match graph.pick_end(Side::Post, ask.post, ask.mask, word) {
             None => (None, State::Post),
             Some(user) => (None, State::User(user)),
         },
-        State::User(user) => match pick_end(graph, Side::User, user, ask.mask, word) {
+        State::User(user) => match graph.pick_end(Side::User, user, ask.mask, word) {
             None => (None, State::Post),
             Some(other) => {
                 if other == ask.post {
@@ -85,6 +86,7 @@ pub fn similar<G: Graph, R: NextWord<u64>>(
 ) -> Result<Shared, Memory>
     ensures ok { IfOk result (λ shared. shared ≡ shared_of (G.shown graph.now).items ask.now (words R.step ask.now.steps generator.old)) }
     ensures further { OnOk result (generator.new ≡ after R.step ask.now.steps generator.old) }
+    ensures in_range { IfOk result (λ shared. sum_of shared ≤ 50000) }
     ensures scorable { IfOk result (λ shared. AreScorable (G.shown graph.now).items ask.now.mask shared) }
 {
     let posts = shared_posts(alloc, graph, ask, generator)?;

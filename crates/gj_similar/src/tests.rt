@@ -44,7 +44,12 @@ fn item(user: u64, post: u64, kind: Kind) -> Item
     requires user { user < 100 }
     requires post { post < 100 }
 {
-    Item { user, post, kind }
+    Item {
+        user,
+        post,
+        kind,
+        at: 0,
+    }
 }
 
 fn score(co: u64, degree: u64, post: u64) -> Score

@@ -3,3 +3,4 @@ pub mod LawLemmas
 pub mod NumberLemmas
 pub mod StepLemmas
 pub mod MassLemmas
+pub mod SumLemmas

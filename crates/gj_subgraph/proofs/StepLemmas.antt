@@ -117,7 +117,7 @@ units_none (n ∷ names) (x ∷ units) v e = none_case (nat_eq n v) names v x (u
     none_case true names v x rest e f = absurd (let bad : true ≡ false = e in cc)
     none_case false names v x rest e f = f e
 
-head_absent : (n : ℕ) (names : List ℕ) → Distinct (n ∷ names) → stands_in names n ≡ false
+pub head_absent : (n : ℕ) (names : List ℕ) → Distinct (n ∷ names) → stands_in names n ≡ false
 head_absent n names d = absent (stands_in names n) refl
   where
     absent : (b : Bool) → stands_in names n ≡ b → b ≡ false
@@ -129,7 +129,7 @@ head_absent n names d = absent (stands_in names n) refl
         let three = d n in
         absurd (omega (arith, more, one, two, three))
 
-rest_distinct : (n : ℕ) (names : List ℕ) → Distinct (n ∷ names) → Distinct names
+pub rest_distinct : (n : ℕ) (names : List ℕ) → Distinct (n ∷ names) → Distinct names
 rest_distinct n names d v = let one = count_cons n names v in let two = d v in omega (arith, one, two)
 
 pub units_at : (names units : List ℕ) (u : ℕ) → Distinct names → length units ≡ length names → u < length names
@@ -153,7 +153,7 @@ units_at (n ∷ names) (x ∷ units) (suc u) d l m =
         there : (xs : List ℕ) (k v : ℕ) → k < length xs → get_or xs k 0 ≡ v → stands_in xs v ≡ true
         there xs k v l e = stands_at xs k v l e
 
-or_no : (a b : Bool) → (a || b) ≡ false → (a ≡ false) × (b ≡ false)
+pub or_no : (a b : Bool) → (a || b) ≡ false → (a ≡ false) × (b ≡ false)
 or_no true b e = absurd (let bad : true ≡ false = e in cc)
 or_no false b e = (refl, e)
 

@@ -2,7 +2,7 @@
 ghost use Rattle.std.specs.Prelude.{◌≡◌, ◌∷◌, ◌+◌, ◌-◌, ◌*◌, ◌<◌, ◌≤◌, ℕ, [], fold, length, nat_lt, nat_eq, replicate, ◌==◌, ◌&&◌, ◌++◌, if◌then◌else◌, IfOk, OnOk};
 ghost use Rattle.std.specs.HashSet.{contains};
 ghost use Rattle.gj_base.specs.Ends.{passes};
-ghost use Rattle.gj_base.specs.Tally.{with_number};
+ghost use Rattle.gj_base.specs.Tally.{with_number, sum_of};
 ghost use Rattle.gj_subgraph.specs.Masses.{stands_in, edges_of, users_of, posts_of, vertices, starting, spread, with_mass, total_after, masses_of};
 ghost use Rattle.gj_subgraph.specs.Numbers.{AreNumbered, units_in};
 
@@ -17,11 +17,13 @@ use std::collections::HashSet;
 pub type Masses = Tally;
 
 /// The units of the posts, after one half step to them, and for each further iteration one to the users and one back. The
-/// sum of the units is the same after each half step.
+/// sum of the units is the same after each half step: in the end each seed user's 2^20 units stand at posts.
 ///
 /// It looks at each interaction of the window once, and at each edge three times for each half step.
 pub fn subgraph<G: Graph>(alloc: Global, graph: &G, ask: &SubAsk) -> Result<Masses, Memory>
     ensures exact { IfOk result (λ masses. masses ≡ masses_of (G.shown graph.now).items ask.now) }
+    ensures sum { IfOk result (λ masses. sum_of masses ≡ 1048576 * length (vertices (users_of (edges_of (G.shown graph.now).items ask.now.seeds ask.now.mask)))) }
+    ensures in_range { IfOk result (λ masses. sum_of masses ≤ 1048576000) }
     ensures kept { let edges = edges_of (G.shown graph.now).items ask.now.seeds ask.now.mask in
         OnOk result ((n : ℕ) → total_after n (users_of edges) (posts_of edges) (starting (users_of edges)) ≡ 1048576 * length (vertices (users_of edges))) }
 {
@@ -58,7 +60,7 @@ fn keep_edge(
     ensures users { OnOk result (users.new.items ≡ (if passes mask item && contains nat_eq seeds.now item.user then users.old.items ++ item.user ∷ [] else users.old.items)) }
     ensures posts { OnOk result (posts.new.items ≡ (if passes mask item && contains nat_eq seeds.now item.user then posts.old.items ++ item.post ∷ [] else posts.old.items)) }
 {
-    if mask.has(item.kind) && seeds.contains(&item.user) {
+    if mask.lets(item.kind, item.at) && seeds.contains(&item.user) {
         push(users, item.user)?;
         push(posts, item.post)?;
     }

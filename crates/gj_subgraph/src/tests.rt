@@ -15,7 +15,7 @@ fn graph_of(
     let conf = Conf::make(16, 1).expect(rt, "16 and 1 are in range");
     let mut graph = ListGraph::make(alloc, conf, 0)?;
     for (user, post, kind) in edges {
-        let item = Item::make(*user, *post, *kind).expect(rt, "an interaction");
+        let item = Item::make(*user, *post, *kind, 0).expect(rt, "an interaction");
         assert!(rt; graph.length() < 16);
         graph.add(item);
     }

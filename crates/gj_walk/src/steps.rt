@@ -6,7 +6,7 @@ ghost use Rattle.gj_walk.specs.Walk.{step_of, visit_first, walked, visits_of};
 ghost use Rattle.gj_walk.specs.declared.state.State.TheVariants.{Seed};
 
 use crate::state::State;
-use gj_base::{Graph, Memory, Side, Tally, WalkAsk, pick, pick_end, resets};
+use gj_base::{Graph, Memory, Side, Tally, WalkAsk, pick, resets};
 use rand_core::utils::NextWord;
 use std::alloc::Global;
 
@@ -28,11 +28,11 @@ fn step<G: Graph>(graph: &G, ask: &WalkAsk, word: u64, state: State) -> (Option<
 {
     match state {
         State::Seed => (None, State::User(seed_user(ask, word))),
-        State::User(user) => match pick_end(graph, Side::User, user, ask.mask, word) {
+        State::User(user) => match graph.pick_end(Side::User, user, ask.mask, word) {
             None => (None, State::Seed),
             Some(post) => (Some(post), State::Post(post)),
         },
-        State::Post(post) => match pick_end(graph, Side::Post, post, ask.mask, word) {
+        State::Post(post) => match graph.pick_end(Side::Post, post, ask.mask, word) {
             None => (None, State::Seed),
             Some(user) => {
                 if resets(word, ask.reset) {

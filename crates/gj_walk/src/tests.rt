@@ -51,7 +51,12 @@ fn item(user: u64, post: u64, kind: Kind) -> Item
     requires user { user < 100 }
     requires post { post < 100 }
 {
-    Item { user, post, kind }
+    Item {
+        user,
+        post,
+        kind,
+        at: 0,
+    }
 }
 
 #[test]

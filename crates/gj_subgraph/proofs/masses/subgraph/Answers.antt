@@ -1,8 +1,10 @@
-use Rattle.std.proofs.Common.{◌-◌, ◌*◌, ◌∙◌, ap, arith, length, fold, []}
+use Rattle.std.proofs.Common.{◌-◌, ◌*◌, ◌≤◌, ◌∙◌, ap, arith, length, fold, []}
+use Rattle.gj_base.specs.Tally.{sum_of}
 use Rattle.gj_subgraph.specs.Masses.{edges_of, users_of, posts_of, vertices, masses_of, with_mass, spread, starting}
 use Rattle.gj_subgraph.specs.Numbers.{units_in}
 use Rattle.gj_subgraph.proofs.LawLemmas.{total_law}
 use Rattle.gj_subgraph.proofs.MassLemmas.{few_users, same_edges}
+use Rattle.gj_subgraph.proofs.SumLemmas.{masses_sum, masses_within}
 use Rattle.gj_subgraph.proofs.masses.subgraph.Goals as goal
 
 pub units_of-requires-clause-few : goal.units_of-requires-clause-few
@@ -37,3 +39,19 @@ returns-clause-kept g c = λ n.
     let items = (g.G.Graph.shown c.args.graph.now).items in
     let edges = edges_of items c.args.ask.now.seeds c.args.ask.now.mask in
     total_law n (users_of edges) (posts_of edges) (same_edges items c.args.ask.now.seeds c.args.ask.now.mask)
+
+pub returns-clause-in_range : goal.returns-clause-in_range
+returns-clause-in_range g c =
+    let items = (g.G.Graph.shown c.args.graph.now).items in
+    let is = returns-clause-exact g c in
+    let within : sum_of (masses_of items c.args.ask.now) ≤ 1048576000 =
+    rw (← c.ask.view_is) (masses_within items _ c.ask.invariant.iterations_low c.ask.invariant.seeds.few) in
+    let same = ap sum_of is in
+    omega (arith, same, within)
+
+pub returns-clause-sum : goal.returns-clause-sum
+returns-clause-sum g c =
+    let items = (g.G.Graph.shown c.args.graph.now).items in
+    let query = c.args.ask.now in
+    let some : 1 ≤ query.iterations = rw (← c.ask.view_is) c.ask.invariant.iterations_low in
+    ap sum_of (returns-clause-exact g c) ∙ masses_sum items query some
