@@ -4,4 +4,3 @@ pub mod KindLemmas
 pub mod NamesLemmas
 pub mod SeedLemmas
 pub mod TreeLemmas
-pub mod ReasonLemmas

@@ -1,7 +1,7 @@
 -- The names of fields, in lower case.
 use Rattle.std.specs.Prelude.{ℕ, List, codes}
 use Rattle.gj_request.specs.declared.name.Name.{Name}
-use Rattle.gj_request.specs.declared.name.Name.TheVariants.{Items, User, Post, Kind, Seeds, Steps, Seed, Kinds, Reset, Top, Proof, Hide, Since, Iterations, Body, Unknown, Id}
+use Rattle.gj_request.specs.declared.name.Name.TheVariants.{Items, User, Post, Kind, At, Seeds, Steps, Seed, Kinds, Reset, Top, Proof, Hide, Since, NotBefore, Iterations, Body, Unknown, Id}
 
 -- the text of a name
 abbrev pub name_text : Name → List ℕ
@@ -9,6 +9,7 @@ name_text Items = codes "items"
 name_text User = codes "user"
 name_text Post = codes "post"
 name_text Kind = codes "kind"
+name_text At = codes "at"
 name_text Seeds = codes "seeds"
 name_text Steps = codes "steps"
 name_text Seed = codes "seed"
@@ -18,6 +19,7 @@ name_text Top = codes "top"
 name_text Proof = codes "proof"
 name_text Hide = codes "hide"
 name_text Since = codes "since"
+name_text NotBefore = codes "not_before"
 name_text Iterations = codes "iterations"
 name_text Body = codes "body"
 name_text Unknown = codes "unknown"

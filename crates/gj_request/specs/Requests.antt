@@ -10,11 +10,12 @@ use Rattle.gj_base.specs.declared.ask.Route.TheVariants as routes
 use Rattle.gj_base.specs.declared.ask.Query.TheVariants as queries
 use Rattle.gj_base.specs.declared.ask.Ask.{Ask}
 use Rattle.gj_base.specs.declared.ask.Ask.TheVariants.{Items, Query}
+use Rattle.gj_base.specs.Kinds.{since_moment}
 use Rattle.gj_request.specs.Results.{◌>>=◌, ranged}
 use Rattle.gj_request.specs.Tables.{read_by, batch_rows, walk_rows, subgraph_rows, similar_rows}
 use Rattle.gj_request.specs.declared.name.Name.TheVariants as names
-use Rattle.gj_request.specs.declared.refusal.Refusal.{Refusal}
-use Rattle.gj_request.specs.declared.refusal.Refusal.TheVariants.{Json, Field}
+use Rattle.gj_request.specs.declared.refusal.Reason.{Reason}
+use Rattle.gj_request.specs.declared.refusal.Reason.TheVariants.{Json, Field}
 
 -- the routes whose path ends in an identifier
 abbrev pub has_id : Route → Bool
@@ -26,7 +27,7 @@ has_id _ = false
 unfoldable pub tree_of : List ℕ → Option Data
 tree_of text = if is_utf8 text then read text else None
 
-abbrev pub parsed : Option Data → Result Data Refusal
+abbrev pub parsed : Option Data → Result Data Reason
 parsed None = Err Json
 parsed (Some tree) = Ok tree
 
@@ -39,28 +40,28 @@ abbrev pub digits_value : List ℕ → ℕ
 digits_value text = fold (λ n digit. 10 * n + (digit - 48)) 0 text
 
 -- the identifier at the end of a path
-unfoldable pub path_id : Option (List ℕ) → Result ℕ Refusal
+unfoldable pub path_id : Option (List ℕ) → Result ℕ Reason
 path_id None = Err (Field names.Id)
 path_id (Some text) = if are_digits text then ranged names.Id (nat_le (digits_value text) 9223372036854775807) (digits_value text) else Err (Field names.Id)
 
 -- what the body of each route asks for, as a JSON value
-unfoldable pub batch_of : Data → Result Ask Refusal
+unfoldable pub batch_of : Data → Result Ask Reason
 batch_of = read_by batch_rows Items names.Body
 
-unfoldable pub walk_of : Data → Result Ask Refusal
-walk_of = read_by walk_rows (λ seeds steps seed mask reset top proof hide since.
-    Query (queries.Walk (record { seeds = seeds; steps = steps; seed = seed; mask = mask; reset = reset; top = top; proof = proof; hide = hide; since = since }))) names.Body
+unfoldable pub walk_of : Data → Result Ask Reason
+walk_of = read_by walk_rows (λ seeds steps seed mask reset top proof hide since not_before.
+    Query (queries.Walk (record { seeds = seeds; steps = steps; seed = seed; mask = since_moment mask not_before; reset = reset; top = top; proof = proof; hide = hide; since = since }))) names.Body
 
-unfoldable pub subgraph_of : Data → Result Ask Refusal
-subgraph_of = read_by subgraph_rows (λ seeds iterations mask top proof since.
-    Query (queries.Sub (record { seeds = seeds; iterations = iterations; mask = mask; top = top; proof = proof; since = since }))) names.Body
+unfoldable pub subgraph_of : Data → Result Ask Reason
+subgraph_of = read_by subgraph_rows (λ seeds iterations mask top proof since not_before.
+    Query (queries.Sub (record { seeds = seeds; iterations = iterations; mask = since_moment mask not_before; top = top; proof = proof; since = since }))) names.Body
 
-unfoldable pub similar_of : Data → Result Ask Refusal
-similar_of = read_by similar_rows (λ post steps seed mask top since.
-    Query (queries.Sim (record { post = post; steps = steps; seed = seed; mask = mask; top = top; since = since }))) names.Body
+unfoldable pub similar_of : Data → Result Ask Reason
+similar_of = read_by similar_rows (λ post steps seed mask top since not_before.
+    Query (queries.Sim (record { post = post; steps = steps; seed = seed; mask = since_moment mask not_before; top = top; since = since }))) names.Body
 
 -- what a request asks for
-unfoldable pub asked : Route → Option (List ℕ) → List ℕ → Result Ask Refusal
+unfoldable pub asked : Route → Option (List ℕ) → List ℕ → Result Ask Reason
 asked routes.Interactions id body = parsed (tree_of body) >>= batch_of
 asked routes.Walk id body = parsed (tree_of body) >>= walk_of
 asked routes.Subgraph id body = parsed (tree_of body) >>= subgraph_of

@@ -7,12 +7,12 @@ use Rattle.serde_json.specs.Find.{get, as_object}
 use Rattle.gj_base.specs.Interaction.{Interaction}
 use Rattle.gj_base.specs.Kinds.{all_kinds}
 use Rattle.gj_request.specs.Results.{◌>>=◌, formed}
-use Rattle.gj_request.specs.Forms.{some_items, Content, Form, number, id, truth, kind, ids, kinds, array_of, each}
+use Rattle.gj_request.specs.Forms.{some_items, Content, Form, number, moment, id, truth, kind, ids, kinds, array_of, each}
 use Rattle.gj_request.specs.Names.{name_text}
 use Rattle.gj_request.specs.declared.name.Name.{Name}
 use Rattle.gj_request.specs.declared.name.Name.TheVariants as names
-use Rattle.gj_request.specs.declared.refusal.Refusal.{Refusal}
-use Rattle.gj_request.specs.declared.refusal.Refusal.TheVariants.{Field}
+use Rattle.gj_request.specs.declared.refusal.Reason.{Reason}
+use Rattle.gj_request.specs.declared.refusal.Reason.TheVariants.{Field}
 
 -- a field: its name, its form, and what stands for it where it is missing
 pub record Row : Type 0 where
@@ -29,11 +29,11 @@ abbrev pub optional : Name → (form : Form) → Content form.shape → Row
 optional name form default = record { name = name; form = form; default = Some default }
 
 -- what a field says, by the value that an object has under its name
-abbrev pub said : (row : Row) → Option Data → Result (Content row.form.shape) Refusal
+abbrev pub said : (row : Row) → Option Data → Result (Content row.form.shape) Reason
 said row None = formed row.name row.default
 said row (Some value) = row.form.reading row.name value
 
-unfoldable pub field : (row : Row) → Data → Result (Content row.form.shape) Refusal
+unfoldable pub field : (row : Row) → Data → Result (Content row.form.shape) Reason
 field row value = said row (get (name_text row.name) value)
 
 -- what is built of what each field of a table says
@@ -42,7 +42,7 @@ Builder [] A = A
 Builder (row ∷ rows) A = Content row.form.shape → Builder rows A
 
 -- the fields of a table in order, and what is built of them
-abbrev pub filled : {A : Type 0} (rows : List Row) → Builder rows A → Data → Result A Refusal
+abbrev pub filled : {A : Type 0} (rows : List Row) → Builder rows A → Data → Result A Reason
 filled [] built value = Ok built
 filled (row ∷ rows) build value = do
   content ← field row value
@@ -58,32 +58,32 @@ are_known known no_members = true
 are_known known (member text value members) = is_known known text && are_known known members
 
 -- the value, where it is an object with no other names than these
-unfoldable pub object_of : Name → List Name → Data → Result Data Refusal
+unfoldable pub object_of : Name → List Name → Data → Result Data Reason
 object_of name known value = do
   members ← formed name (as_object value)
   if are_known known members then Ok value else Err (Field names.Unknown)
 
 -- what is built of an object by a table
-abbrev pub read_by : {A : Type 0} (rows : List Row) → Builder rows A → Name → Data → Result A Refusal
+abbrev pub read_by : {A : Type 0} (rows : List Row) → Builder rows A → Name → Data → Result A Reason
 read_by rows build name value = do
   fields ← object_of name (map (λ row. row.name) rows) value
   filled rows build fields
 
 -- an element of items
 abbrev pub item_rows : List Row
-item_rows = needed names.User id ∷ needed names.Post id ∷ needed names.Kind kind ∷ []
+item_rows = needed names.User id ∷ needed names.Post id ∷ needed names.Kind kind ∷ optional names.At moment 0 ∷ []
 
-unfoldable pub item_of : Name → Data → Result Interaction Refusal
-item_of name = read_by item_rows (λ user post kind. record { user = user; post = post; kind = kind }) name
+unfoldable pub item_of : Name → Data → Result Interaction Reason
+item_of name = read_by item_rows (λ user post kind at. record { user = user; post = post; kind = kind; at = at }) name
 
 -- one interaction more
-unfoldable pub add_item : Name → List Interaction → Data → Result (List Interaction) Refusal
+unfoldable pub add_item : Name → List Interaction → Data → Result (List Interaction) Reason
 add_item name earlier value = do
   x ← item_of name value
   Ok (earlier ++ x ∷ [])
 
 -- interactions, in order
-unfoldable pub items_of : Name → Data → Result (List Interaction) Refusal
+unfoldable pub items_of : Name → Data → Result (List Interaction) Reason
 items_of name value = do
   list ← array_of 4096 name value
   each (add_item name) [] list
@@ -106,6 +106,7 @@ walk_rows =
     ∷ optional names.Proof (number 0 10) 3
     ∷ optional names.Hide truth false
     ∷ optional names.Since (number 0 281474976710656) 0
+    ∷ optional names.NotBefore moment 0
     ∷ []
 
 abbrev pub subgraph_rows : List Row
@@ -116,6 +117,7 @@ subgraph_rows =
     ∷ optional names.Top (number 1 100) 10
     ∷ optional names.Proof (number 0 10) 3
     ∷ optional names.Since (number 0 281474976710656) 0
+    ∷ optional names.NotBefore moment 0
     ∷ []
 
 abbrev pub similar_rows : List Row
@@ -126,4 +128,5 @@ similar_rows =
     ∷ optional names.Kinds kinds all_kinds
     ∷ optional names.Top (number 1 100) 10
     ∷ optional names.Since (number 0 281474976710656) 0
+    ∷ optional names.NotBefore moment 0
     ∷ []

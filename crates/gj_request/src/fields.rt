@@ -12,24 +12,24 @@ ghost use Rattle.gj_request.specs.Tables.{field, needed, optional, object_of, is
 
 use crate::forms::{read_ids, read_kind, read_kinds, read_number, read_truth};
 use crate::name::Name;
-use crate::refusal::Refusal;
+use crate::refusal::{Reason, Refusal};
 use gj_base::{IdList, Kind, MAX_ID, Mask};
 use serde_json::{Map, Value};
 use std::alloc::Global;
 
 /// Refuses what is no object, and an object with a name that is not in the table.
 #[tactic(auto, unfolding(crate::specs::Tables::object_of))]
-pub fn check_names(name: Name, value: &Value, table: &[Name]) -> Result<(), Refusal>
+pub fn check_names(name: Name, value: &Value, table: &[Name]) -> Result<(), Reason>
     ensures ok { OnOk result (object_of name table.now (view value.now) ≡ Ok (view value.now)) }
     ensures refused { IfErr result (λ why. object_of name table.now (view value.now) ≡ Err why) }
 {
     let Some(members) = value.as_object() else {
-        return Err(Refusal::Field(name));
+        return Err(Reason::Field(name));
     };
     if are_known(members, table) {
         Ok(())
     } else {
-        Err(Refusal::Field(Name::Unknown))
+        Err(Reason::Field(Name::Unknown))
     }
 }
 
@@ -59,14 +59,14 @@ pub fn number(
     least: u64,
     most: u64,
     default: Option<u64>,
-) -> Result<u64, Refusal>
+) -> Result<u64, Reason>
     requires default_in_range { ForSome default (λ n. (least ≤ n) × (n ≤ most)) }
     ensures exact { result ≡ field (record { name = name; form = forms.number least most; default = default }) (view object.now) }
     ensures in_range { IfOk result (λ n. (least ≤ n) × (n ≤ most)) }
 {
     match object.get(name.text()) {
         Some(value) => read_number(name, value, least, most),
-        None => default.ok_or(Refusal::Field(name)),
+        None => default.ok_or(Reason::Field(name)),
     }
 }
 
@@ -77,7 +77,7 @@ pub fn small(
     least: u32,
     most: u32,
     default: Option<u32>,
-) -> Result<u32, Refusal>
+) -> Result<u32, Reason>
     requires default_in_range { ForSome default (λ n. (least ≤ n) × (n ≤ most)) }
     ensures exact { result ≡ field (record { name = name; form = forms.number least most; default = default }) (view object.now) }
     ensures in_range { IfOk result (λ n. (least ≤ n) × (n ≤ most)) }
@@ -95,21 +95,29 @@ fn wide(n: Option<u32>) -> Option<u64>
     }
 }
 
+/// A moment in whole seconds, by default 0.
+pub fn moment(object: &Value, name: Name) -> Result<u64, Reason>
+    ensures exact { result ≡ field (optional name forms.moment 0) (view object.now) }
+    ensures in_range { IfOk result (λ at. at ≤ MAX_ID) }
+{
+    number(object, name, 0, MAX_ID, Some(0))
+}
+
 /// An identifier, which has to be there.
 #[tactic(auto, unfolding(crate::specs::Tables::field))]
-pub fn id(object: &Value, name: Name) -> Result<u64, Refusal>
+pub fn id(object: &Value, name: Name) -> Result<u64, Reason>
     ensures exact { result ≡ field (needed name forms.id) (view object.now) }
     ensures in_range { IfOk result (λ id. id ≤ MAX_ID) }
 {
     match object.get(name.text()) {
         Some(value) => read_number(name, value, 0, MAX_ID),
-        None => Err(Refusal::Field(name)),
+        None => Err(Reason::Field(name)),
     }
 }
 
 /// True or false.
 #[tactic(auto, unfolding(crate::specs::Tables::field))]
-pub fn truth(object: &Value, name: Name, default: bool) -> Result<bool, Refusal>
+pub fn truth(object: &Value, name: Name, default: bool) -> Result<bool, Reason>
     ensures { result ≡ field (optional name forms.truth default) (view object.now) }
 {
     match object.get(name.text()) {
@@ -120,18 +128,18 @@ pub fn truth(object: &Value, name: Name, default: bool) -> Result<bool, Refusal>
 
 /// A kind, which has to be there.
 #[tactic(auto, unfolding(crate::specs::Tables::field))]
-pub fn kind(object: &Value, name: Name) -> Result<Kind, Refusal>
+pub fn kind(object: &Value, name: Name) -> Result<Kind, Reason>
     ensures { result ≡ field (needed name forms.kind) (view object.now) }
 {
     match object.get(name.text()) {
         Some(value) => read_kind(name, value),
-        None => Err(Refusal::Field(name)),
+        None => Err(Reason::Field(name)),
     }
 }
 
 /// Kinds, by default all.
 #[tactic(auto, unfolding(crate::specs::Tables::field))]
-pub fn kinds(object: &Value, name: Name) -> Result<Mask, Refusal>
+pub fn kinds(object: &Value, name: Name) -> Result<Mask, Reason>
     ensures { result ≡ field (optional name forms.kinds all_kinds) (view object.now) }
 {
     match object.get(name.text()) {

@@ -9,7 +9,7 @@ ghost use Rattle.gj_request.specs.SeenIds.{HasThese};
 ghost use Rattle.gj_request.specs.Results.{Refuses, Gives};
 
 use crate::name::Name;
-use crate::refusal::Refusal;
+use crate::refusal::{Reason, Refusal};
 use gj_base::{IdList, Kind, MAX_ID, MAX_SEEDS, Mask, Memory};
 use serde_json::Value;
 use std::alloc::Global;
@@ -17,41 +17,41 @@ use std::collections::BTreeSet;
 
 /// A number from the least to the most.
 #[tactic(auto, unfolding(crate::specs::Forms::number_of))]
-pub fn read_number(name: Name, value: &Value, least: u64, most: u64) -> Result<u64, Refusal>
+pub fn read_number(name: Name, value: &Value, least: u64, most: u64) -> Result<u64, Reason>
     ensures exact { result ≡ number_of least most name (view value.now) }
     ensures in_range { IfOk result (λ n. (least ≤ n) × (n ≤ most)) }
 {
     let Some(n) = value.as_u64() else {
-        return Err(Refusal::Field(name));
+        return Err(Reason::Field(name));
     };
     if least <= n && n <= most {
         Ok(n)
     } else {
-        Err(Refusal::Range(name))
+        Err(Reason::Range(name))
     }
 }
 
 /// True or false.
 #[tactic(auto, unfolding(crate::specs::Forms::truth_of))]
-pub fn read_truth(name: Name, value: &Value) -> Result<bool, Refusal>
+pub fn read_truth(name: Name, value: &Value) -> Result<bool, Reason>
     ensures { result ≡ truth_of name (view value.now) }
 {
     match value.as_bool() {
-        None => Err(Refusal::Field(name)),
+        None => Err(Reason::Field(name)),
         Some(truth) => Ok(truth),
     }
 }
 
 /// A kind, by its name.
 #[tactic(auto, unfolding(crate::specs::Forms::kind_of))]
-pub fn read_kind(name: Name, value: &Value) -> Result<Kind, Refusal>
+pub fn read_kind(name: Name, value: &Value) -> Result<Kind, Reason>
     ensures { result ≡ kind_of name (view value.now) }
 {
     let Some(text) = value.as_str() else {
-        return Err(Refusal::Field(name));
+        return Err(Reason::Field(name));
     };
     match Kind::from_name(text) {
-        None => Err(Refusal::Range(name)),
+        None => Err(Reason::Range(name)),
         Some(kind) => Ok(kind),
     }
 }
@@ -119,38 +119,38 @@ pub fn read_ids(alloc: Global, name: Name, value: &Value) -> Result<IdList, Refu
 
 /// The elements of an array that has one at least and `most` at most.
 #[tactic(auto, using(crate::proofs::ArrayLemmas::items_count))]
-pub fn read_array(name: Name, value: &Value, most: usize) -> Result<&[Value], Refusal>
+pub fn read_array(name: Name, value: &Value, most: usize) -> Result<&[Value], Reason>
     ensures ok { IfOk result (λ list. array_of most name (view value.now) ≡ Ok (items_view list.now)) }
     ensures refused { IfErr result (λ why. array_of most name (view value.now) ≡ Err why) }
     ensures in_range { IfOk result (λ list. (1 ≤ length list.now) × (length list.now ≤ most)) }
 {
     let Some(list) = value.as_array() else {
-        return Err(Refusal::Field(name));
+        return Err(Reason::Field(name));
     };
     let list = list.as_slice();
     if 1 <= list.len() && list.len() <= most {
         Ok(list)
     } else {
-        Err(Refusal::Range(name))
+        Err(Reason::Range(name))
     }
 }
 
 /// The kinds of an array with at least one element.
 #[tactic(auto, unfolding(crate::specs::Forms::kinds_of))]
-pub fn read_kinds(name: Name, value: &Value) -> Result<Mask, Refusal>
+pub fn read_kinds(name: Name, value: &Value) -> Result<Mask, Reason>
     ensures { result ≡ kinds_of name (view value.now) }
 {
     let Some(list) = value.as_array() else {
-        return Err(Refusal::Field(name));
+        return Err(Reason::Field(name));
     };
     kinds_in(name, list.as_slice())
 }
 
-fn kinds_in(name: Name, list: &[Value]) -> Result<Mask, Refusal>
+fn kinds_in(name: Name, list: &[Value]) -> Result<Mask, Reason>
     ensures { result ≡ kinds_in name (items_view list.now) }
 {
     let Some((first, others)) = list.split_first() else {
-        return Err(Refusal::Range(name));
+        return Err(Reason::Range(name));
     };
     let mut mask = Mask::one(read_kind(name, first)?);
     for value in others {
@@ -161,7 +161,7 @@ fn kinds_in(name: Name, list: &[Value]) -> Result<Mask, Refusal>
 
 /// The set and one kind more.
 #[tactic(auto, unfolding(crate::specs::Forms::add_kind))]
-fn with_kind(mask: Mask, name: Name, value: &Value) -> Result<Mask, Refusal>
+fn with_kind(mask: Mask, name: Name, value: &Value) -> Result<Mask, Reason>
     ensures { result ≡ add_kind name mask (view value.now) }
 {
     Ok(mask.with(read_kind(name, value)?))

@@ -6,27 +6,28 @@ ghost use Rattle.gj_request.specs.Results.{Refuses, Gives};
 ghost use Rattle.gj_request.specs.Tables as tables;
 ghost use Rattle.gj_request.specs.Tables.{field, needed, item_of, add_item, items_of};
 
-use crate::fields::{check_names, id, kind};
+use crate::fields::{check_names, id, kind, moment};
 use crate::forms::read_array;
 use crate::name::Name;
-use crate::refusal::Refusal;
+use crate::refusal::{Reason, Refusal};
 use gj_base::{Item, ItemList, MAX_BATCH};
 use serde_json::Value;
 use std::alloc::Global;
 
 /// The names of an element of items.
-const ITEM: [Name; 3] = [Name::User, Name::Post, Name::Kind];
+const ITEM: [Name; 4] = [Name::User, Name::Post, Name::Kind, Name::At];
 
 /// One interaction.
 #[tactic(auto, unfolding(crate::specs::Tables::item_of))]
-fn read_item(name: Name, value: &Value) -> Result<Item, Refusal>
+fn read_item(name: Name, value: &Value) -> Result<Item, Reason>
     ensures { result ≡ item_of name (view value.now) }
 {
     check_names(name, value, &ITEM)?;
     let user = id(value, Name::User)?;
     let post = id(value, Name::Post)?;
     let kind = kind(value, Name::Kind)?;
-    Ok(Item { user, post, kind })
+    let at = moment(value, Name::At)?;
+    Ok(Item { user, post, kind, at })
 }
 
 /// Puts one interaction more at the end.

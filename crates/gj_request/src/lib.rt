@@ -13,7 +13,7 @@ mod refusal;
 mod request;
 
 pub use name::Name;
-pub use refusal::Refusal;
+pub use refusal::{Reason, Refusal};
 pub use request::read_request;
 
 #[cfg(test)]

@@ -5,23 +5,23 @@ ghost use Rattle.std.specs.List.{list_all};
 ghost use Rattle.gj_request.specs.Requests.{are_digits, digits_value, path_id};
 
 use crate::name::Name;
-use crate::refusal::Refusal;
+use crate::refusal::Reason;
 use gj_base::MAX_ID;
 
 /// The identifier that a text spells, in any number of digits.
 #[tactic(auto, unfolding(crate::specs::Requests::path_id))]
-pub fn read_path_id(text: &str) -> Result<u64, Refusal>
+pub fn read_path_id(text: &str) -> Result<u64, Reason>
     ensures exact { result ≡ path_id (Some text.now) }
     ensures in_range { IfOk result (λ id. id ≤ MAX_ID) }
 {
     if !are_digits(text.as_bytes()) {
-        return Err(Refusal::Field(Name::Id));
+        return Err(Reason::Field(Name::Id));
     }
     let value = capped_value(text.as_bytes());
     if value <= MAX_ID {
         Ok(value)
     } else {
-        Err(Refusal::Range(Name::Id))
+        Err(Reason::Range(Name::Id))
     }
 }
 

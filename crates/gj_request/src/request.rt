@@ -4,11 +4,11 @@ ghost use Rattle.serde_json.specs.View.{view};
 ghost use Rattle.gj_request.specs.Requests.{tree_of, parsed, batch_of, walk_of, subgraph_of, similar_of, asked, has_id, IsAsked};
 ghost use Rattle.gj_request.specs.Results.{Refuses, Gives};
 
-use crate::fields::{check_names, id, ids, kinds, number, small, truth};
+use crate::fields::{check_names, id, ids, kinds, moment, number, small, truth};
 use crate::items::items;
 use crate::name::Name;
 use crate::path::read_path_id;
-use crate::refusal::Refusal;
+use crate::refusal::{Reason, Refusal};
 use gj_base::{
     Ask, HISTORY_END, MAX_ITERATIONS, MAX_PROOF, MAX_RESET, MAX_STEPS, MAX_TOP, Query, Route,
     SimAsk, SubAsk, WalkAsk,
@@ -18,7 +18,7 @@ use std::alloc::Global;
 
 /// What a request asks for: by its route, the last part of its path where the route has an identifier, and its body,
 /// which is ignored for the routes without one. Takes memory for the body's tree and for the lists of the ask.
-#[tactic(auto, using(crate::proofs::ReasonLemmas::never_memory), unfolding(crate::specs::Requests::asked))]
+#[tactic(auto, unfolding(crate::specs::Requests::asked))]
 pub fn read_request(
     alloc: Global,
     route: Route,
@@ -31,15 +31,12 @@ pub fn read_request(
 
     // What every ask keeps, beside what its own type keeps.
     ensures in_range { IfOk result IsAsked }
-
-    // Want of memory is never what was to come.
-    ensures reasons { asked route (option_map (λ text. text.now) id.entry) body.now ≡ Err Refusal.Memory → ⊥ }
 {
     match route {
         Route::Interactions => read_batch(alloc, &parse(alloc, body)?),
         Route::Walk => read_walk(alloc, &parse(alloc, body)?),
         Route::Subgraph => read_subgraph(alloc, &parse(alloc, body)?),
-        Route::Similar => read_similar(&parse(alloc, body)?),
+        Route::Similar => Ok(read_similar(&parse(alloc, body)?)?),
         Route::User => Ok(Ask::Query(Query::User(read_path_id(id.unwrap())?))),
         Route::Post => Ok(Ask::Query(Query::Post(read_path_id(id.unwrap())?))),
         Route::Stats => Ok(Ask::Query(Query::Stats)),
@@ -81,7 +78,7 @@ const DEFAULT_TOP: u32 = 10;
 const DEFAULT_PROOF: u32 = 3;
 
 /// The names of a walk's fields.
-const WALK: [Name; 9] = [
+const WALK: [Name; 10] = [
     Name::Seeds,
     Name::Steps,
     Name::Seed,
@@ -91,6 +88,7 @@ const WALK: [Name; 9] = [
     Name::Proof,
     Name::Hide,
     Name::Since,
+    Name::NotBefore,
 ];
 
 #[tactic(auto, unfolding(crate::specs::Requests::walk_of))]
@@ -108,11 +106,12 @@ fn read_walk(alloc: Global, tree: &Value) -> Result<Ask, Refusal>
     let proof = small(tree, Name::Proof, 0, MAX_PROOF, Some(DEFAULT_PROOF))?;
     let hide = truth(tree, Name::Hide, false)?;
     let since = number(tree, Name::Since, 0, HISTORY_END, Some(0))?;
+    let not_before = moment(tree, Name::NotBefore)?;
     Ok(Ask::Query(Query::Walk(WalkAsk {
         seeds,
         steps,
         seed,
-        mask,
+        mask: mask.from_moment(not_before),
         reset,
         top,
         proof,
@@ -122,13 +121,14 @@ fn read_walk(alloc: Global, tree: &Value) -> Result<Ask, Refusal>
 }
 
 /// The names of the fields of subgraph SALSA.
-const SUBGRAPH: [Name; 6] = [
+const SUBGRAPH: [Name; 7] = [
     Name::Seeds,
     Name::Iterations,
     Name::Kinds,
     Name::Top,
     Name::Proof,
     Name::Since,
+    Name::NotBefore,
 ];
 
 #[tactic(auto, unfolding(crate::specs::Requests::subgraph_of))]
@@ -143,10 +143,11 @@ fn read_subgraph(alloc: Global, tree: &Value) -> Result<Ask, Refusal>
     let top = small(tree, Name::Top, 1, MAX_TOP, Some(DEFAULT_TOP))?;
     let proof = small(tree, Name::Proof, 0, MAX_PROOF, Some(DEFAULT_PROOF))?;
     let since = number(tree, Name::Since, 0, HISTORY_END, Some(0))?;
+    let not_before = moment(tree, Name::NotBefore)?;
     Ok(Ask::Query(Query::Sub(SubAsk {
         seeds,
         iterations,
-        mask,
+        mask: mask.from_moment(not_before),
         top,
         proof,
         since,
@@ -154,18 +155,19 @@ fn read_subgraph(alloc: Global, tree: &Value) -> Result<Ask, Refusal>
 }
 
 /// The names of the fields of similarity.
-const SIMILAR: [Name; 6] = [
+const SIMILAR: [Name; 7] = [
     Name::Post,
     Name::Steps,
     Name::Seed,
     Name::Kinds,
     Name::Top,
     Name::Since,
+    Name::NotBefore,
 ];
 
 #[tactic(auto, unfolding(crate::specs::Requests::similar_of))]
-fn read_similar(tree: &Value) -> Result<Ask, Refusal>
-    ensures exact { Gives (similar_of (view tree.now)) result }
+fn read_similar(tree: &Value) -> Result<Ask, Reason>
+    ensures exact { result ≡ similar_of (view tree.now) }
     ensures in_range { IfOk result IsAsked }
 {
     check_names(Name::Body, tree, &SIMILAR)?;
@@ -175,11 +177,12 @@ fn read_similar(tree: &Value) -> Result<Ask, Refusal>
     let mask = kinds(tree, Name::Kinds)?;
     let top = small(tree, Name::Top, 1, MAX_TOP, Some(DEFAULT_TOP))?;
     let since = number(tree, Name::Since, 0, HISTORY_END, Some(0))?;
+    let not_before = moment(tree, Name::NotBefore)?;
     Ok(Ask::Query(Query::Sim(SimAsk {
         post,
         steps,
         seed,
-        mask,
+        mask: mask.from_moment(not_before),
         top,
         since,
     })))

@@ -18,10 +18,17 @@ fn subgraph_of(alloc: Global, body: &str) -> Option<SubAsk> {
     }
 }
 
-fn similar_of(alloc: Global, body: &str) -> Option<(u64, u32, u64, u32, u64)> {
+fn similar_of(alloc: Global, body: &str) -> Option<(u64, u32, u64, u32, u64, u64)> {
     let answer = read_request(alloc, Route::Similar, None, body.as_bytes());
     if let Ok(Ask::Query(Query::Sim(ask))) = &answer {
-        Some((ask.post, ask.steps, ask.seed, ask.top, ask.since))
+        Some((
+            ask.post,
+            ask.steps,
+            ask.seed,
+            ask.top,
+            ask.since,
+            ask.mask.not_before(),
+        ))
     } else {
         None
     }
@@ -180,6 +187,16 @@ fn the_fields_of_a_walk_have_their_ranges(rt: HostRuntime) {
         ("\"hide\":1", Refusal::Field(Name::Hide)),
         ("\"since\":281474976710657", Refusal::Range(Name::Since)),
         ("\"since\":\"0\",\"top\":0", Refusal::Range(Name::Top)),
+        ("\"not_before\":-1", Refusal::Field(Name::NotBefore)),
+        ("\"not_before\":null", Refusal::Field(Name::NotBefore)),
+        (
+            "\"not_before\":9223372036854775808",
+            Refusal::Range(Name::NotBefore),
+        ),
+        (
+            "\"not_before\":-1,\"since\":281474976710657",
+            Refusal::Range(Name::Since),
+        ),
     ] {
         let body = format!(in rt.alloc(); "{{\"seeds\":[1],\"steps\":6,{field}}}").expect(
             &rt, "memory",
@@ -230,13 +247,14 @@ fn a_walk_has_its_defaults(rt: HostRuntime) -> Result<(), Fail> {
         (10, 3, false, 0)
     );
     assert_eq!(rt; kinds_of(ask.mask), [true, true, true, true, true]);
+    assert_eq!(rt; ask.mask.not_before(), 0);
     Ok(())
 }
 
 #[test]
 fn a_walk_has_what_its_body_says(rt: HostRuntime) -> Result<(), Fail> {
     let body =
-        "{\"since\":281474976710656,\"hide\":true,\"proof\":10,\"top\":100,\"reset\":10000,\"kinds\":[\"tweet\",\"click\",\"tweet\"],\"seed\":18446744073709551615,\"steps\":100000,\"seeds\":[9223372036854775807,0]}";
+        "{\"not_before\":9223372036854775807,\"since\":281474976710656,\"hide\":true,\"proof\":10,\"top\":100,\"reset\":10000,\"kinds\":[\"tweet\",\"click\",\"tweet\"],\"seed\":18446744073709551615,\"steps\":100000,\"seeds\":[9223372036854775807,0]}";
     let ask = walk_of(rt.alloc(), body).ok_or("no walk")?;
     assert_eq!(rt; ask.seeds.as_slice(), [MAX_ID, 0].as_slice());
     assert_eq!(rt;
@@ -248,6 +266,7 @@ fn a_walk_has_what_its_body_says(rt: HostRuntime) -> Result<(), Fail> {
         (100, 10, true, 1 << 48)
     );
     assert_eq!(rt; kinds_of(ask.mask), [true, false, false, false, true]);
+    assert_eq!(rt; ask.mask.not_before(), MAX_ID);
     Ok(())
 }
 
@@ -310,6 +329,22 @@ fn a_batch_is_refused_by_the_first_fault(rt: HostRuntime) {
             Refusal::Range(Name::Kind),
         ),
         (
+            "[{\"user\":1,\"post\":1,\"kind\":0,\"at\":-1}]",
+            Refusal::Field(Name::Kind),
+        ),
+        (
+            "[{\"user\":1,\"post\":1,\"kind\":\"click\",\"at\":-1}]",
+            Refusal::Field(Name::At),
+        ),
+        (
+            "[{\"user\":1,\"post\":1,\"kind\":\"click\",\"at\":null}]",
+            Refusal::Field(Name::At),
+        ),
+        (
+            "[{\"user\":1,\"post\":1,\"kind\":\"click\",\"at\":9223372036854775808}]",
+            Refusal::Range(Name::At),
+        ),
+        (
             "[{\"user\":1,\"post\":1,\"kind\":\"like\"},0]",
             Refusal::Range(Name::Kind),
         ),
@@ -332,19 +367,22 @@ fn a_batch_is_refused_by_the_first_fault(rt: HostRuntime) {
 }
 
 #[test]
-fn a_batch_has_its_interactions_in_order(rt: HostRuntime) -> Result<(), Fail> {
+fn a_batch_has_its_interactions_in_order_and_no_moment_is_0(rt: HostRuntime) -> Result<(), Fail> {
     let body =
-        "{\"items\":[{\"user\":9223372036854775807,\"post\":0,\"kind\":\"reply\"},{\"kind\":\"favorite\",\"post\":20,\"user\":1}]}";
+        "{\"items\":[{\"user\":9223372036854775807,\"post\":0,\"kind\":\"reply\"},{\"at\":9223372036854775807,\"kind\":\"favorite\",\"post\":20,\"user\":1}]}";
     let items = batch_of(rt.alloc(), body).ok_or("no batch")?;
     let items = items.as_slice();
     assert_eq!(rt; items.len(), 2);
     let first = items[0];
     assert_eq!(rt;
-        (first.user, first.post, first.kind),
-        (MAX_ID, 0, Kind::Reply)
+        (first.user, first.post, first.kind, first.at),
+        (MAX_ID, 0, Kind::Reply, 0)
     );
     let last = items[1];
-    assert_eq!(rt; (last.user, last.post, last.kind), (1, 20, Kind::Favorite));
+    assert_eq!(rt;
+        (last.user, last.post, last.kind, last.at),
+        (1, 20, Kind::Favorite, MAX_ID)
+    );
     Ok(())
 }
 
@@ -390,6 +428,10 @@ fn a_subgraph_query_has_its_own_fields(rt: HostRuntime) -> Result<(), Fail> {
             "{\"seeds\":[1],\"iterations\":21}",
             Refusal::Range(Name::Iterations),
         ),
+        (
+            "{\"seeds\":[1],\"iterations\":1,\"not_before\":1.5}",
+            Refusal::Field(Name::NotBefore),
+        ),
     ] {
         assert_eq!(rt;
             subgraph_refusal(rt.alloc(), body.as_bytes()),
@@ -397,14 +439,16 @@ fn a_subgraph_query_has_its_own_fields(rt: HostRuntime) -> Result<(), Fail> {
             "{body}"
         );
     }
-    let ask = subgraph_of(rt.alloc(), "{\"seeds\":[2,1],\"iterations\":20}").ok_or(
-        "no subgraph query",
-    )?;
+    let ask = subgraph_of(
+        rt.alloc(),
+        "{\"seeds\":[2,1],\"iterations\":20,\"not_before\":100}",
+    ).ok_or("no subgraph query")?;
     assert_eq!(rt; ask.seeds.as_slice(), [2, 1].as_slice());
     assert_eq!(rt;
         (ask.iterations, ask.top, ask.proof, ask.since),
         (20, 10, 3, 0)
     );
+    assert_eq!(rt; ask.mask.not_before(), 100);
     Ok(())
 }
 
@@ -422,6 +466,10 @@ fn a_similar_query_has_its_own_fields(rt: HostRuntime) -> Result<(), Fail> {
             Refusal::Range(Name::Post),
         ),
         ("{\"post\":1,\"steps\":0}", Refusal::Range(Name::Steps)),
+        (
+            "{\"post\":1,\"steps\":1,\"not_before\":\"0\"}",
+            Refusal::Field(Name::NotBefore),
+        ),
     ] {
         assert_eq!(rt;
             similar_refusal(rt.alloc(), body.as_bytes()),
@@ -429,8 +477,11 @@ fn a_similar_query_has_its_own_fields(rt: HostRuntime) -> Result<(), Fail> {
             "{body}"
         );
     }
-    let ask = similar_of(rt.alloc(), "{\"post\":10,\"steps\":1000}").ok_or("no similar query")?;
-    assert_eq!(rt; ask, (10, 1000, 0, 10, 0));
+    let ask = similar_of(
+        rt.alloc(),
+        "{\"post\":10,\"steps\":1000,\"not_before\":7}",
+    ).ok_or("no similar query")?;
+    assert_eq!(rt; ask, (10, 1000, 0, 10, 0, 7));
     Ok(())
 }
 
