@@ -56,21 +56,21 @@ pub enum Reply {
         length: u64,
         results: ScoreList,
     },
-    /// A user's degree over all kinds, and the latest interactions, newest first.
+    /// A user's degree over all kinds and moments, and the latest interactions, newest first.
     User {
         length: u64,
         id: u64,
         degree: u64,
         recent: EdgeList,
     },
-    /// A post's degree over all kinds, and the latest interactions, newest first.
+    /// A post's degree over all kinds and moments, and the latest interactions, newest first.
     Post {
         length: u64,
         id: u64,
         degree: u64,
         recent: EdgeList,
     },
-    /// Where the window begins, how much it may hold, and what it has of each kind.
+    /// Where the window begins, how much it may hold, and what it has of each kind, at all moments.
     Stats {
         length: u64,
         base: u64,

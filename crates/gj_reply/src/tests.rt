@@ -188,8 +188,8 @@ fn a_refusal_of_an_ask_has_its_numbers_or_its_field(rt: HostRuntime) {
     let field = Reply::BadField(Name::Unknown);
     let body = "{\"error\":\"field\",\"name\":\"unknown\"}";
     expect_text(&rt, alloc, &field, Status::BadRequest, body);
-    let range = Reply::BadRange(Name::Seeds);
-    let body = "{\"error\":\"range\",\"name\":\"seeds\"}";
+    let range = Reply::BadRange(Name::NotBefore);
+    let body = "{\"error\":\"range\",\"name\":\"not_before\"}";
     expect_text(&rt, alloc, &range, Status::BadRequest, body);
 }
 

@@ -27,7 +27,12 @@ fn read_item(name: Name, value: &Value) -> Result<Item, Reason>
     let post = id(value, Name::Post)?;
     let kind = kind(value, Name::Kind)?;
     let at = moment(value, Name::At)?;
-    Ok(Item { user, post, kind, at })
+    Ok(Item {
+        user,
+        post,
+        kind,
+        at,
+    })
 }
 
 /// Puts one interaction more at the end.

@@ -442,7 +442,8 @@ fn a_subgraph_query_has_its_own_fields(rt: HostRuntime) -> Result<(), Fail> {
     let ask = subgraph_of(
         rt.alloc(),
         "{\"seeds\":[2,1],\"iterations\":20,\"not_before\":100}",
-    ).ok_or("no subgraph query")?;
+    )
+    .ok_or("no subgraph query")?;
     assert_eq!(rt; ask.seeds.as_slice(), [2, 1].as_slice());
     assert_eq!(rt;
         (ask.iterations, ask.top, ask.proof, ask.since),
@@ -477,10 +478,9 @@ fn a_similar_query_has_its_own_fields(rt: HostRuntime) -> Result<(), Fail> {
             "{body}"
         );
     }
-    let ask = similar_of(
-        rt.alloc(),
-        "{\"post\":10,\"steps\":1000,\"not_before\":7}",
-    ).ok_or("no similar query")?;
+    let ask = similar_of(rt.alloc(), "{\"post\":10,\"steps\":1000,\"not_before\":7}").ok_or(
+        "no similar query",
+    )?;
     assert_eq!(rt; ask, (10, 1000, 0, 10, 0, 7));
     Ok(())
 }
