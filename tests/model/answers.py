@@ -33,22 +33,26 @@ class History:
         return self.items[self.base() :]
 
 
-def ends(window, mask):
+def eligible(window, ask):
+    """The interactions that the query looks at: by their kind and by their moment."""
+    return [item for item in window if item.kind in ask.kinds and item.at >= ask.not_before]
+
+
+def ends(window, ask):
     """For each user the posts, and for each post the users, of the eligible interactions.
 
     The oldest comes first, and repeats stay.
     """
     posts_of, users_of = defaultdict(list), defaultdict(list)
-    for item in window:
-        if item.kind in mask:
-            posts_of[item.user].append(item.post)
-            users_of[item.post].append(item.user)
+    for item in eligible(window, ask):
+        posts_of[item.user].append(item.post)
+        users_of[item.post].append(item.user)
     return posts_of, users_of
 
 
 def visits(window, ask):
     """How often a walk of `steps` steps from the seed users is at each post."""
-    posts_of, users_of = ends(window, ask.kinds)
+    posts_of, users_of = ends(window, ask)
     found = Counter()
     user = post = None  # neither: the walk is about to choose a seed user
     for word in islice(words(ask.seed), ask.steps):
@@ -85,8 +89,7 @@ def half_step(edges, units):
 def masses(window, ask):
     """The units of each post, after they spread over the seed users' own interactions."""
     seeds = set(ask.seeds)
-    eligible = [item for item in window if item.kind in ask.kinds]
-    out = [(item.user, item.post) for item in eligible if item.user in seeds]
+    out = [(item.user, item.post) for item in eligible(window, ask) if item.user in seeds]
     back = [(post, user) for user, post in out]
     units = half_step(out, {user: FIRST_UNITS for user, _ in out})
     for _ in range(ask.iterations - 1):
@@ -96,7 +99,7 @@ def masses(window, ask):
 
 def shared(window, ask):
     """How often a walk of two-step trips from the post comes to each other post."""
-    posts_of, users_of = ends(window, ask.kinds)
+    posts_of, users_of = ends(window, ask)
     co = Counter()
     user = None  # the walk is at the post itself
     for word in islice(words(ask.seed), ask.steps):
@@ -121,7 +124,7 @@ def ranked(numbers, top):
 
 def with_proofs(window, ask, name, pairs):
     """The results of a ranking, each with the seed users that lead to the post."""
-    _, users_of = ends(window, ask.kinds)
+    _, users_of = ends(window, ask)
     results = []
     for post, number in pairs:
         social_proof = sorted(set(ask.seeds) & set(users_of[post]))[: ask.proof]
@@ -131,7 +134,7 @@ def with_proofs(window, ask, name, pairs):
 
 def answer_walk(window, ask):
     found = visits(window, ask)
-    if ask.hide:
+    if ask.hide:  # by all interactions of the seed users, and not by the eligible ones alone
         seeds = set(ask.seeds)
         for post in {item.post for item in window if item.user in seeds}:
             found.pop(post, None)
@@ -144,7 +147,7 @@ def answer_subgraph(window, ask):
 
 def answer_similar(window, ask):
     """The other posts by co^2 over their degree: the largest first, then the lower identifier."""
-    _, users_of = ends(window, ask.kinds)
+    _, users_of = ends(window, ask)
     scores = [(co, len(users_of[post]), post) for post, co in shared(window, ask).items()]
     scores.sort(key=lambda score: (-Fraction(score[0] ** 2, score[1]), score[2]))
     return [{"post": post, "co": co, "degree": degree} for co, degree, post in scores[: ask.top]]
@@ -162,7 +165,8 @@ def answer_query(history, route, ask):
 
 
 def answer_vertex(history, side, id):
-    """A user or a post, with its degree and its last ends, the newest first."""
+    """A user or a post, with its degree and its last ends, the newest first, of all kinds and
+    moments."""
     across = "post" if side == "user" else "user"
     of_vertex = [item for item in history.window() if getattr(item, side) == id]
     recent = of_vertex[::-1][:MOST_RECENT]

@@ -16,6 +16,7 @@ class Item(NamedTuple):
     user: int
     post: int
     kind: str
+    at: int  # when it happened, in whole seconds, as its poster tells
 
 
 class Refusal(Exception):
@@ -37,6 +38,7 @@ def number(least, most):
 
 
 identifier = number(0, MAX_ID)
+moment = number(0, MAX_ID)
 
 
 def truth(name, tree):
@@ -85,7 +87,12 @@ def items(name, tree):
 
 NEEDED = object()
 
-ITEM = [("user", identifier, NEEDED), ("post", identifier, NEEDED), ("kind", kind, NEEDED)]
+ITEM = [
+    ("user", identifier, NEEDED),
+    ("post", identifier, NEEDED),
+    ("kind", kind, NEEDED),
+    ("at", moment, 0),
+]
 
 SEEDS = ("seeds", identifiers, NEEDED)
 STEPS = ("steps", number(1, 100000), NEEDED)
@@ -94,6 +101,7 @@ MASK = ("kinds", kinds, set(KINDS))
 TOP = ("top", number(1, 100), 10)
 PROOF = ("proof", number(0, 10), 3)
 SINCE = ("since", number(0, 2**48), 0)
+NOT_BEFORE = ("not_before", moment, 0)
 
 FIELDS = {
     "interactions": [("items", items, NEEDED)],
@@ -107,9 +115,18 @@ FIELDS = {
         PROOF,
         ("hide", truth, False),
         SINCE,
+        NOT_BEFORE,
     ],
-    "subgraph": [SEEDS, ("iterations", number(1, 20), NEEDED), MASK, TOP, PROOF, SINCE],
-    "similar": [("post", identifier, NEEDED), STEPS, SEED, MASK, TOP, SINCE],
+    "subgraph": [
+        SEEDS,
+        ("iterations", number(1, 20), NEEDED),
+        MASK,
+        TOP,
+        PROOF,
+        SINCE,
+        NOT_BEFORE,
+    ],
+    "similar": [("post", identifier, NEEDED), STEPS, SEED, MASK, TOP, SINCE, NOT_BEFORE],
 }
 
 

@@ -52,7 +52,7 @@ WITH_ID = ("users", "posts")
 FIRST_ROUTES = {name: ROUTES[name] for name in ("interactions", "walk", "users", "posts", "stats")}
 
 # The least and the largest value of each option of the word `replay`.
-OPTIONS = {"--capacity": (16, 65536), "--segments": (1, 16)}
+OPTIONS = {"--capacity": (16, 65536), "--segments": (1, 64)}
 
 
 def route_of(path, routes):

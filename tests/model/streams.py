@@ -16,15 +16,23 @@ def an_id(rng):
     return rng.choice(IDS_AT_THE_EDGE) if rng.random() < 0.02 else rng.randint(1, 12)
 
 
+def a_moment(rng):
+    """Small mostly, so that many moments are the same."""
+    return rng.choice([0, 2**63 - 1]) if rng.random() < 0.05 else rng.randint(0, 20)
+
+
 def a_batch(rng, length):
     some_kinds = rng.sample(KINDS, rng.randint(1, 5))
     spread = rng.choice([3, 6, 12, 12, 400])
+    share_with_moment = rng.choice([0, 0.5, 1, 1])
     items = []
     for _ in range(length):
         small = rng.random() < 0.98
         user = rng.randint(1, spread) if small else an_id(rng)
         post = rng.randint(1, spread) if small else an_id(rng)
         items.append({"user": user, "post": post, "kind": rng.choice(some_kinds)})
+        if rng.random() < share_with_moment:
+            items[-1]["at"] = a_moment(rng)
     return {"items": items}
 
 
@@ -52,6 +60,7 @@ OPTIONAL = {
     "proof": lambda rng: rng.choice([0, 1, 2, 10]),
     "hide": lambda rng: rng.random() < 0.7,
     "since": since,
+    "not_before": lambda rng: rng.choice([0, 1, a_moment(rng), a_moment(rng), a_moment(rng)]),
 }
 NEEDED = {
     "interactions": {"items": lambda rng: a_batch(rng, rng.randint(1, 12))["items"]},
@@ -67,6 +76,7 @@ AT_THE_LIMITS = {
     "top": "0 1 100 101",
     "proof": "0 10 11",
     "since": "281474976710656 281474976710657",
+    "not_before": "-1 0 9223372036854775807 9223372036854775808 18446744073709551616",
     "post": "0 9223372036854775807 9223372036854775808",
     "seeds": "[] [9223372036854775808] [1,1] [1,2,1] [3,9223372036854775807,0] [1,-1] [1,1,null]",
     "kinds": '[] ["like"] ["click","reply","click"] ["click","like",1] ["click",1,"like"]',
@@ -76,8 +86,8 @@ AT_THE_LIMITS = {
 OPTIONAL_OF = {
     "interactions": [],
     "walk": list(OPTIONAL),
-    "subgraph": ["kinds", "top", "proof", "since"],
-    "similar": ["seed", "kinds", "top", "since"],
+    "subgraph": ["kinds", "top", "proof", "since", "not_before"],
+    "similar": ["seed", "kinds", "top", "since", "not_before"],
 }
 
 
@@ -160,7 +170,7 @@ ODD_VALUES = [
 ]
 ODD_TREES = [text for text in ODD_VALUES if is_tree(text)]
 ODD_NAMES = r"x Steps st\u0065ps steps\u0000 seeds item \u0069tems since user".split()
-ODD_NAMES += ["", "steps ", "\u00e9"]
+ODD_NAMES += ["", "steps ", "\u00e9", "at", "not_before", "Not_before", "notbefore"]
 ODD_ITEMS = """
     1 null [] {} "" true {"x":0}
     {"user":1,"post":2} {"user":1,"kind":"click"} {"post":1,"kind":"click"}
@@ -172,6 +182,14 @@ ODD_ITEMS = """
     {"user":1,"post":9223372036854775808,"kind":"like"} {"user":1,"post":1.0,"kind":"like"}
     {"user":9223372036854775807,"post":0,"kind":"tweet"} {"user":1,"post":2,"kind":["click"]}
     {"user":1,"post":2,"kind":null} {"user":null,"post":2,"kind":"click"}
+    {"user":1,"post":2,"kind":"click","at":-1} {"user":1,"post":2,"kind":"click","at":null}
+    {"user":1,"post":2,"kind":"like","at":-1} {"at":-1,"user":-1} {"at":1,"kind":"click","user":1}
+    {"user":1,"post":2,"kind":"click","at":9223372036854775808}
+    {"user":1,"post":2,"kind":"click","at":9223372036854775807}
+    {"user":1,"post":2,"kind":"click","at":18446744073709551616}
+    {"user":1,"post":2,"kind":"click","at":"1"} {"user":1,"post":2,"kind":"click","at":1.0}
+    {"user":1,"post":2,"kind":"click","at":1,"at":2} {"user":1,"post":2,"kind":"click","At":1}
+    {"user":1,"post":2,"kind":"click","not_before":1}
 """.split()
 
 

@@ -49,16 +49,16 @@ unfoldable pub batch_of : Data → Result Ask Reason
 batch_of = read_by batch_rows Items names.Body
 
 unfoldable pub walk_of : Data → Result Ask Reason
-walk_of = read_by walk_rows (λ seeds steps seed mask reset top proof hide since not_before.
-    Query (queries.Walk (record { seeds = seeds; steps = steps; seed = seed; mask = since_moment mask not_before; reset = reset; top = top; proof = proof; hide = hide; since = since }))) names.Body
+walk_of = read_by walk_rows (λ seeds steps seed kinds reset top proof hide since not_before.
+    Query (queries.Walk (record { seeds = seeds; steps = steps; seed = seed; mask = since_moment kinds not_before; reset = reset; top = top; proof = proof; hide = hide; since = since }))) names.Body
 
 unfoldable pub subgraph_of : Data → Result Ask Reason
-subgraph_of = read_by subgraph_rows (λ seeds iterations mask top proof since not_before.
-    Query (queries.Sub (record { seeds = seeds; iterations = iterations; mask = since_moment mask not_before; top = top; proof = proof; since = since }))) names.Body
+subgraph_of = read_by subgraph_rows (λ seeds iterations kinds top proof since not_before.
+    Query (queries.Sub (record { seeds = seeds; iterations = iterations; mask = since_moment kinds not_before; top = top; proof = proof; since = since }))) names.Body
 
 unfoldable pub similar_of : Data → Result Ask Reason
-similar_of = read_by similar_rows (λ post steps seed mask top since not_before.
-    Query (queries.Sim (record { post = post; steps = steps; seed = seed; mask = since_moment mask not_before; top = top; since = since }))) names.Body
+similar_of = read_by similar_rows (λ post steps seed kinds top since not_before.
+    Query (queries.Sim (record { post = post; steps = steps; seed = seed; mask = since_moment kinds not_before; top = top; since = since }))) names.Body
 
 -- what a request asks for
 unfoldable pub asked : Route → Option (List ℕ) → List ℕ → Result Ask Reason
