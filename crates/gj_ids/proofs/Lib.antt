@@ -1,4 +1,2 @@
-pub mod Places
 pub mod Probing
 pub mod Putting
-pub mod NumberingLemmas

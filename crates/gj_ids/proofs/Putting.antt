@@ -4,9 +4,9 @@ use Rattle.std.proofs.lemmas.Grind.{take-set_at}
 use Rattle.std.proofs.lemmas.List.{length-take-le}
 use Rattle.std.proofs.Math.Seq.{get_or-append_seam}
 use Rattle.gj_ids.specs.declared.table.Slot.{Slot}
-use Rattle.gj_ids.specs.Numbering.{place_of, HasNoRepeat}
+use Rattle.gj_base.specs.Firsts.{place_of, HasNoRepeat}
 use Rattle.gj_ids.specs.Slots.{first_slot_of, IsTable, IsFree, seated_in}
-use Rattle.gj_ids.proofs.Places.{place_of-at}
+use Rattle.gj_base.proofs.FirstLemmas.{place_of-at}
 use Rattle.gj_ids.proofs.Probing.{table_seated}
 
 -- the list with one more, as the memory behind it shows it

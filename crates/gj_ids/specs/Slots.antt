@@ -3,7 +3,7 @@ use Rattle.std.specs.Prelude.{◌≡◌, ◌≢◌, ◌==◌, ℕ, ◌*◌, ◌/
 use Rattle.gj_ids.specs.declared.table.Slot.{Slot}
 use Rattle.gj_ids.specs.declared.table.Stop.{Stop}
 use Rattle.gj_ids.specs.declared.table.Stop.TheVariants.{Held, Free}
-use Rattle.gj_ids.specs.Numbering.{HasNoRepeat, place_of}
+use Rattle.gj_base.specs.Firsts.{HasNoRepeat, place_of}
 
 -- the slot where the search for an identifier begins, of 2 ^ (64 - shift)
 unfoldable pub first_slot_of : ℕ → ℕ → ℕ

@@ -1,6 +1,7 @@
 //! The numbering of the identifiers.
 ghost use Rattle.std.specs.Prelude.{◌≡◌, ◌≢◌, ◌+◌, ◌-◌, ◌<◌, ◌≤◌, [], IfOk, IfSome, Some, None, length, slice_index};
-ghost use Rattle.gj_ids.specs.Numbering.{place_of, with_id, IsNumbering};
+ghost use Rattle.gj_base.specs.Firsts.{place_of, with_id};
+ghost use Rattle.gj_ids.specs.Numbering.{IsNumbering};
 
 use crate::table::{Stop, Table};
 use gj_base::Memory;
@@ -109,7 +110,7 @@ impl IdMap {
         self.room - self.len
     }
 
-    /// Removes all identifiers. It takes no memory, and touches the slots only once in 2^32 - 1 calls.
+    /// Removes all identifiers. It takes no memory, and touches the slots only once in 65535 calls.
     pub fn clear(&mut self)
         ensures empty { self.new.ids ≡ [] }
         ensures room { self.new.room ≡ self.old.room }

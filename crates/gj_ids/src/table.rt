@@ -1,6 +1,6 @@
 //! The slots by which an identifier's place is found: open addressing, with linear probing in a circle.
 ghost use Rattle.std.specs.Prelude.{◌≡◌, ℕ, ◌+◌, ◌*◌, ◌^◌, ◌<◌, ◌≤◌, ◌++◌, [], ◌∷◌, IfOk, IfSome, IfNone, length};
-ghost use Rattle.gj_ids.specs.Numbering.{place_of};
+ghost use Rattle.gj_base.specs.Firsts.{place_of};
 ghost use Rattle.gj_ids.specs.Slots.{first_slot_of, IsReady, IsTable, IsOther, IsStop, IsPlaced, IsWay, EndsAt, seated_in};
 
 use gj_base::Memory;
@@ -9,18 +9,18 @@ use std::alloc::Global;
 // 2^64 over the golden ratio, to the nearest odd number: its products spread near identifiers over all slots.
 const FACTOR: u64 = 11400714819323198485;
 
-/// The place of an identifier; it counts only while the stamp is the table's.
+/// The place of an identifier, below 65536; it counts only while the stamp is the table's.
 #[derive(Clone, Copy, Drop)]
 pub struct Slot {
-    pub stamp: u32,
-    pub place: u32,
+    pub stamp: u16,
+    pub place: u16,
 }
 
 /// The slots of one map. Their number is 2^(64 - shift).
 #[derive(Drop)]
 pub struct Table {
     pub slots: Vec<Slot>,
-    pub stamp: u32,
+    pub stamp: u16,
     pub shift: u32,
 }
 
@@ -72,7 +72,7 @@ impl Table {
         ensures empty { IsTable self.new.slots.items self.new.stamp self.new.shift [] }
         ensures same { length self.new.slots.items ≡ length self.old.slots.items }
     {
-        if self.stamp == u32::MAX {
+        if self.stamp == u16::MAX {
             self.slots.fill(Slot { stamp: 0, place: 0 });
             self.stamp = 1;
         } else {
@@ -83,12 +83,14 @@ impl Table {
     /// Gives the free slot at `at` to the place.
     #[inline]
     pub fn seat(&mut self, at: usize, place: u32)
-        requires { at < length self.old.slots.items }
+        requires inside { at < length self.old.slots.items }
+        requires small { place < 65536 }
         ensures slots { self.new.slots.items ≡ seated_in self.old.slots.items self.old.stamp at place }
         ensures stamp { self.new.stamp ≡ self.old.stamp }
         ensures shift { self.new.shift ≡ self.old.shift }
     {
         let stamp = self.stamp;
+        let place = place as u16;
         self.slots[at] = Slot { stamp, place };
     }
 
@@ -102,7 +104,7 @@ impl Table {
         let at = self.stop(ids, id);
         let slot = self.slots[at];
         if slot.stamp == self.stamp {
-            Stop::Held(slot.place)
+            Stop::Held(slot.place as u32)
         } else {
             Stop::Free(at)
         }

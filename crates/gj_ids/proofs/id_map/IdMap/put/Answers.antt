@@ -1,6 +1,7 @@
 use Rattle.std.proofs.Common.{◌≡◌, ◌<◌, ◌+◌, ℕ, List, None, length, take, set, rules, arith, ap, subst, ◌∙◌, length-set}
 use Rattle.std.proofs.lemmas.List.{length-take-le}
-use Rattle.gj_ids.specs.Numbering.{place_of, Numbering}
+use Rattle.gj_base.specs.Firsts.{place_of}
+use Rattle.gj_ids.specs.Numbering.{Numbering}
 use Rattle.gj_ids.specs.declared.table.Slot.{Slot}
 use Rattle.gj_ids.specs.Slots.{IsTable}
 use Rattle.gj_ids.proofs.Putting.{table_put, place_put}

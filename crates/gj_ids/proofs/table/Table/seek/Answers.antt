@@ -2,7 +2,7 @@ use Rattle.std.proofs.Common.{◌≡◌, ℕ, ◌<◌, length, get_or, inl, inr,
 use Rattle.std.proofs.lemmas.List.{get_or_default}
 use Rattle.gj_ids.specs.declared.table.Slot.{Slot}
 use Rattle.gj_ids.specs.Slots.{blank, stamp_at, place_at}
-use Rattle.gj_ids.proofs.Places.{place_of-at, place_of-none}
+use Rattle.gj_base.proofs.FirstLemmas.{place_of-at, place_of-none}
 use Rattle.gj_ids.proofs.Probing.{absent_at_free, way_used}
 use Rattle.gj_ids.proofs.table.Table.seek.Goals as goal
 
