@@ -171,5 +171,5 @@ end_named items side id v i mask e far found is far_at =
     let at = place_of-Some (vertices_of items side) id v found in
     ap (λ (n : ℕ). slice_get (ends items side n mask) i) (sym at.1)
     ∙ (ap (λ (l : List (ℕ × Kind)). slice_get l i) (ends-named items side v mask at.0)
-        ∙ (slice_get-map (named_end items side) (ends (numbered items) side v mask) i
-            ∙ (ap (option_map (named_end items side)) is ∙ ap (λ (n : ℕ). let o : Option (ℕ × Kind) = Some (n, e.1) in o) (sym far_at))))
+    ∙ (slice_get-map (named_end items side) (ends (numbered items) side v mask) i
+    ∙ (ap (option_map (named_end items side)) is ∙ ap (λ (n : ℕ). let o : Option (ℕ × Kind) = Some (n, e.1) in o) (sym far_at))))
