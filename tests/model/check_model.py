@@ -1,4 +1,4 @@
-"""The hand-worked rows, on the model and on the program, and the model's own parts.
+"""The rows, on the model and on the program, and the model's own parts.
 
     python3 tests/model/check_model.py --program crates/graphjet/out/graphjet
 
@@ -124,7 +124,7 @@ class Parts(unittest.TestCase):
 
 
 def main():
-    parser = argparse.ArgumentParser(description="the hand-worked rows", add_help=False)
+    parser = argparse.ArgumentParser(description="the rows", add_help=False)
     parser.add_argument("--program")
     parser.add_argument("--options", action="store_true")
     settings, left = parser.parse_known_args()
