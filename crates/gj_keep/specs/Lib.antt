@@ -1,0 +1,3 @@
+pub mod Books
+pub mod Openings
+pub mod Rows

@@ -1,0 +1,12 @@
+//! The book of what is accepted, kept by a keeper; the local index over it; and keepers in memory.
+//!
+//! Contracts see a book by its configuration, the first place that is kept, the length of the history, what its keeper
+//! keeps, and the keeper's faults. Opening takes memory for the rows and the graphs; `keep` takes what the keeper takes.
+#![tactic(auto)]
+
+mod book;
+mod opening;
+mod reading;
+
+pub use book::Book;
+pub use opening::{OpenError, OpenRefused};
