@@ -1,11 +1,11 @@
 -- What a book keeps, and what a keeper keeps of a history.
-use Rattle.std.specs.Prelude.{◌≡◌, ℕ, ◌^◌, ◌≤◌, ◌==◌, ◌&&◌, ◌||◌, Bool, true, IsTrue, List, filter, nat_le, Option, Some, None, Result, Ok, Err}
+use Rattle.std.specs.Prelude.{◌≡◌, ℕ, ◌-◌, ◌%◌, ◌^◌, ◌≤◌, ◌==◌, ◌&&◌, ◌||◌, Bool, true, IsTrue, List, drop, filter, nat_le, Option, Some, None}
 use Rattle.gj_base.specs.declared.history.History.{History}
 use Rattle.gj_base.specs.declared.keeper.KeptConf.{KeptConf}
 use Rattle.gj_base.specs.declared.keeper.KeptItem.{KeptItem}
 use Rattle.gj_base.specs.Configuration.{Configuration}
-use Rattle.gj_base.specs.History.{base, length_of}
-use Rattle.gj_base.specs.Kept.{Kept, KeepsFrom, migrated, next_place}
+use Rattle.gj_base.specs.History.{base, items_of, length_of}
+use Rattle.gj_base.specs.Kept.{Kept, placed, next_place, rows_under}
 use Rattle.gj_keep.specs.Rows.{first_place, good}
 
 -- the configuration as a store keeps it
@@ -19,7 +19,14 @@ suits conf (Some kept) = (kept.version == 1 || kept.version == 2) && (kept.capac
 
 -- the rows that are told, each with the moment 0 where the kept version is 1
 abbrev pub told_rows : Kept → List KeptItem
-told_rows kept = (migrated kept).rows
+told_rows kept = rows_under kept.conf kept.rows
+
+-- the rows are those of the history from the place from on, which is aligned and not behind the window's base
+pub record KeepsFrom (capacity segments from : ℕ) (rows : List KeptItem) (h : History) : Type 0 where
+  pub aligned : from % capacity ≡ 0
+  pub not_before : h.first ≤ from
+  pub not_behind : from ≤ base capacity segments (length_of h)
+  pub rows_are : rows ≡ placed from (drop (from - h.first) (items_of h.entries))
 
 -- a store keeps the history: it may be opened, no row is bad, and the rows are those of the history from an aligned place that is not behind its base
 pub record Holds (conf : Configuration) (kept : Kept) (h : History) : Type 0 where

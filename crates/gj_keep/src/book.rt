@@ -1,11 +1,11 @@
 //! A book of what is accepted, which a keeper keeps.
-ghost use Rattle.std.specs.Prelude.{◌≡◌, ℕ, ◌+◌, ◌^◌, ◌<◌, ◌≤◌, length, OnOk, OnErr, IfOk, IfErr, IsErrOf};
+ghost use Rattle.std.specs.Prelude.{◌≡◌, ◌⊎◌, ℕ, ◌+◌, ◌++◌, ◌^◌, ◌<◌, ◌≤◌, All, length, OnOk, OnErr, IfOk, IfErr, IsErr, IsErrOf, IsTrue};
 ghost use Rattle.gj_base.specs.declared.history.History.{History};
-ghost use Rattle.gj_base.specs.declared.index.IndexError.TheVariants.{Store, Full};
-ghost use Rattle.gj_base.specs.declared.keeper.KeepError.TheVariants.{Failed};
-ghost use Rattle.gj_base.specs.Causes.{Rose};
+ghost use Rattle.gj_base.specs.declared.index.IndexError.TheVariants.{Full};
+ghost use Rattle.gj_base.specs.Causes.{faults_after, faults_posted};
 ghost use Rattle.gj_base.specs.History.{extend, entries_by};
-ghost use Rattle.gj_keep.specs.Books.{BookKeeps, Keeps};
+ghost use Rattle.gj_base.specs.Kept.{with_rows, placed};
+ghost use Rattle.gj_keep.specs.Books.{BookKeeps, Keeps, trimmed};
 
 use gj_base::{Conf, HISTORY_END, IndexError, Item, KeepError, Keeper, Receipt};
 use std::marker::Model;
@@ -62,9 +62,12 @@ impl<K: Keeper> Book<K> {
     /// Drops what is in no window.
     fn trim(&mut self) -> Result<(), KeepError>
         ensures keeps { (h : History) → BookKeeps self.old h → BookKeeps self.new h }
-        ensures same { (self.new.length ≡ self.old.length) × (self.new.conf ≡ self.old.conf) × (self.new.kept.tells ≡ self.old.kept.tells) }
+        ensures ok { IsTrue self.old.kept.tells → OnOk result (self.new.kept ≡ with_rows self.old.kept (trimmed self.old.conf self.old.length self.old.kept.rows)) }
+        ensures err { OnErr result (self.new.kept ≡ self.old.kept) }
+        ensures same { (self.new.length ≡ self.old.length) × (self.new.conf ≡ self.old.conf) }
+        ensures kind { (self.new.kept.tells ≡ self.old.kept.tells) × (self.new.kept.bare ≡ self.old.kept.bare) }
+        ensures count { self.new.faults ≡ faults_after self.old.faults result }
         ensures later { self.old.faults ≤ self.new.faults }
-        ensures cause { IsErrOf result Failed → Rose self.old.faults self.new.faults }
     {
         let at = self.conf.base(self.length);
         if at <= self.first {
@@ -79,13 +82,17 @@ impl<K: Keeper> Book<K> {
     fn append(&mut self, items: &[Item]) -> Result<(), KeepError>
         requires room { self.old.length + length items.now ≤ 2 ^ 48 }
         ensures ok { (h : History) (by : ℕ) → BookKeeps self.old h → OnOk result (BookKeeps self.new (extend h (entries_by by items.now))) }
+        ensures rows { IsTrue self.old.kept.tells → OnOk result (self.new.kept ≡ with_rows self.old.kept (self.old.kept.rows ++ placed self.old.length items.now)) }
         ensures err { (h : History) → BookKeeps self.old h → OnErr result (BookKeeps self.new h) }
+        ensures rows_err { OnErr result (self.new.kept ≡ self.old.kept) }
         ensures length { OnOk result (self.new.length ≡ self.old.length + length items.now) }
         ensures same { self.new.conf ≡ self.old.conf }
+        ensures kind { (self.new.kept.tells ≡ self.old.kept.tells) × (self.new.kept.bare ≡ self.old.kept.bare) }
+        ensures count { self.new.faults ≡ faults_after self.old.faults result }
         ensures later { self.old.faults ≤ self.new.faults }
-        ensures cause { IsErrOf result Failed → Rose self.old.faults self.new.faults }
     {
         let _room = self.conf.room();
+        numbers_in(items);
         self.keeper.append(self.length, items)?;
         self.length += items.len() as u64;
         Ok(())
@@ -98,11 +105,18 @@ impl<K: Keeper> Book<K> {
         ensures ok { (h : History) (by : ℕ) → BookKeeps self.old h → OnOk result (BookKeeps self.new (extend h (entries_by by items.now))) }
         ensures receipt { IfOk result (λ r. (r.from ≡ self.old.length) × (r.to ≡ self.old.length + length items.now)) }
         ensures err { (h : History) → BookKeeps self.old h → OnErr result (BookKeeps self.new h) }
-        ensures full { IfErr result (λ why. (n : ℕ) → why ≡ Full n → (n ≡ self.old.length) × (2 ^ 48 < self.old.length + length items.now)) }
+        ensures full { IfErr result (λ why. (n : ℕ) → why ≡ Full n → (n ≡ self.old.length) × (2 ^ 48 < self.old.length + length items.now) × (self.new ≡ self.old)) }
         ensures room { 2 ^ 48 < self.old.length + length items.now → IsErrOf result (Full self.old.length) }
-        ensures cause { IsErrOf result Store → Rose self.old.faults self.new.faults }
+        ensures count { self.new.faults ≡ faults_posted self.old.faults result }
         ensures later { self.old.faults ≤ self.new.faults }
         ensures same { self.new.conf ≡ self.old.conf }
+
+        // What the store holds: the rows that a window may need, and behind them the batch.
+        ensures rows { IsTrue self.old.kept.tells
+            → OnOk result (self.new.kept ≡ with_rows self.old.kept (trimmed self.old.conf self.old.length self.old.kept.rows ++ placed self.old.length items.now)) }
+        ensures rows_err { IsTrue self.old.kept.tells
+            → OnErr result ((self.new.kept ≡ self.old.kept) ⊎ (self.new.kept ≡ with_rows self.old.kept (trimmed self.old.conf self.old.length self.old.kept.rows))) }
+        ensures kind { (self.new.kept.tells ≡ self.old.kept.tells) × (self.new.kept.bare ≡ self.old.kept.bare) }
     {
         let count = items.len() as u64;
         let from = self.length;
@@ -110,10 +124,10 @@ impl<K: Keeper> Book<K> {
             return Err(IndexError::Full { length: from });
         }
         if let Err(why) = self.trim() {
-            return Err(refusal(why));
+            return refused(why);
         }
         if let Err(why) = self.append(items) {
-            return Err(refusal(why));
+            return refused(why);
         }
         Ok(Receipt {
             from,
@@ -122,12 +136,30 @@ impl<K: Keeper> Book<K> {
     }
 }
 
-fn refusal(why: KeepError) -> IndexError
-    ensures store { result ≡ Store → why ≡ Failed }
-    ensures full { (n : ℕ) → result ≡ Full n → ⊥ }
+/// What the type of an item says of its numbers, for proofs alone.
+fn numbers_of(item: &Item)
+    ensures { (item.now.user < 2 ^ 63) × (item.now.post < 2 ^ 63) × (item.now.at < 2 ^ 63) }
+{
+    let _user = &item.user;
+}
+
+/// The same of each item.
+fn numbers_in(items: &[Item])
+    ensures { All (λ x. (x.user < 2 ^ 63) × (x.post < 2 ^ 63) × (x.at < 2 ^ 63)) items.now }
+{
+    for item in items {
+        numbers_of(item);
+    }
+}
+
+/// The answer where the keeper refuses.
+fn refused(why: KeepError) -> Result<Receipt, IndexError>
+    ensures err { IsErr result }
+    ensures count { (n : ℕ) → faults_posted n result ≡ faults_after {T = Unit {0}} n (Err why) }
+    ensures full { IfErr result (λ e. (n : ℕ) → e ≡ Full n → ⊥) }
 {
     match why {
-        KeepError::Failed => IndexError::Store,
-        KeepError::Memory => IndexError::Memory,
+        KeepError::Failed => Err(IndexError::Store),
+        KeepError::Memory => Err(IndexError::Memory),
     }
 }

@@ -1,0 +1,5 @@
+pub mod BeginLemmas
+pub mod BookLemmas
+pub mod HistoryLemmas
+pub mod RowLemmas
+pub mod StoreLemmas
