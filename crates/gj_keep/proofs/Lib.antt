@@ -1,5 +1,6 @@
 pub mod BeginLemmas
 pub mod BookLemmas
 pub mod HistoryLemmas
+pub mod OpeningLemmas
 pub mod RowLemmas
 pub mod StoreLemmas

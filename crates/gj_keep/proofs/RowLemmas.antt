@@ -172,3 +172,8 @@ follow_placed place (x ∷ items) range room =
 pub placed_length : (place : ℕ) (items : List Item) → length (placed place items) ≡ length items
 placed_length place [] = refl
 placed_length place (x ∷ items) = ap suc (placed_length (place + 1) items)
+
+pub follow_get : (place : ℕ) (rows : List KeptItem) (k : ℕ) (d : KeptItem) → Follow place rows → k < length rows → IsTrue (is_in_range (get_or rows k d))
+follow_get place [] k d follow low = absurd (omega arith)
+follow_get place (row ∷ rows) zero d follow low = follow.0
+follow_get place (row ∷ rows) (suc k) d follow low = follow_get (place + 1) rows k d follow.2 (omega arith)

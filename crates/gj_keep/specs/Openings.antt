@@ -4,7 +4,8 @@ use Rattle.gj_base.specs.declared.keeper.KeptConf.{KeptConf}
 use Rattle.gj_base.specs.declared.history.History.{History}
 use Rattle.gj_base.specs.Causes.{one_more}
 use Rattle.gj_base.specs.Configuration.{Configuration}
-use Rattle.gj_base.specs.History.{empty_history}
+use Rattle.gj_base.specs.declared.history.Shown.{Shown}
+use Rattle.gj_base.specs.History.{StandsFor, conf_of, empty_history}
 use Rattle.gj_base.specs.Kept.{Kept, with_conf, migrated}
 use Rattle.gj_keep.specs.declared.opening.OpenError.{OpenError}
 use Rattle.gj_keep.specs.declared.opening.OpenError.TheVariants.{Memory, Store, ConfDiffers, KeptRow, Place}
@@ -56,6 +57,10 @@ pub record IsLeft (conf : Configuration) (old new : Kept) : Type 0 where
   pub tells : new.tells ≡ old.tells
   pub bare : new.bare ≡ old.bare
   pub kept : IsTrue old.tells → (new ≡ old) ⊎ (new ≡ prepared conf old)
+
+-- a graph of this configuration stands for the history
+abbrev pub Shows : Shown → Configuration → History → Type 0
+Shows w conf h = StandsFor w h × (conf_of w ≡ conf)
 
 -- the history that an opening over such a keeper begins with, where that is known before the rows are read
 abbrev pub opening_of : Kept → Option History

@@ -5,6 +5,7 @@
 #![tactic(auto)]
 
 mod book;
+mod filling;
 mod opening;
 mod reading;
 

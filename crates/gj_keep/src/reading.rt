@@ -1,9 +1,8 @@
-//! Reading rows: which are bad, and which interactions they are.
-ghost use Rattle.std.specs.Prelude.{◌≡◌, ◌+◌, ◌*◌, ◌<◌, ◌≤◌, ◌^◌, ◌%◌, length, map, drop, None, IfSome, IsTrue};
-ghost use Rattle.gj_base.specs.History.{base, end_of, more};
-ghost use Rattle.gj_keep.specs.Rows.{is_in_range, first_apart, may_begin, first_bad, item_of, first_place};
+//! Which rows are bad.
+ghost use Rattle.std.specs.Prelude.{◌≡◌, ◌<◌, ◌^◌};
+ghost use Rattle.gj_keep.specs.Rows.{is_in_range, first_apart, may_begin, first_bad, first_place};
 
-use gj_base::{Conf, Grow, HISTORY_END, Item, Kind, KeptItem, MAX_ID};
+use gj_base::{Conf, HISTORY_END, KeptItem, MAX_ID};
 
 /// Whether the numbers of the row are in their ranges.
 fn in_range(row: &KeptItem) -> bool
@@ -58,24 +57,4 @@ pub(crate) fn bad_row(conf: Conf, rows: &[KeptItem]) -> Option<u64>
         return Some(0);
     }
     apart(row.place, rows)
-}
-
-/// The interaction of a row.
-fn item_in(row: &KeptItem) -> Item
-    requires { IsTrue (is_in_range row.now) }
-    ensures { result ≡ item_of row.now }
-{
-    let kind = match row.kind {
-        0 => Kind::Click,
-        1 => Kind::Favorite,
-        2 => Kind::Retweet,
-        3 => Kind::Reply,
-        _ => Kind::Tweet,
-    };
-    Item {
-        user: row.user,
-        post: row.post,
-        kind,
-        at: row.moment,
-    }
 }
