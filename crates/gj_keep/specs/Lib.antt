@@ -1,3 +1,4 @@
 pub mod Books
+pub mod MemoryStores
 pub mod Openings
 pub mod Rows

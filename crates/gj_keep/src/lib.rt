@@ -6,8 +6,12 @@
 
 mod book;
 mod filling;
+mod memory_keeper;
+mod no_keeper;
 mod opening;
 mod reading;
 
 pub use book::Book;
+pub use memory_keeper::MemoryKeeper;
+pub use no_keeper::{NoKeeper, NoKeepers};
 pub use opening::{OpenError, OpenRefused};
