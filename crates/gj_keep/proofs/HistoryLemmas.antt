@@ -1,5 +1,5 @@
 -- Of which histories a store's rows are.
-use Rattle.std.proofs.Common.{◌≡◌, ℕ, zero, suc, ◌+◌, ◌-◌, ◌*◌, ◌/◌, ◌%◌, ◌≤◌, ◌<◌, max, true, List, [], ◌∷◌, ◌++◌, length, map, drop, filter, nat_le, refl, sym, ap, ◌∙◌, subst, le_refl, arith, length-append, length-drop}
+use Rattle.std.proofs.Common.{◌≡◌, ℕ, zero, suc, ◌+◌, ◌-◌, ◌*◌, ◌/◌, ◌%◌, ◌≤◌, ◌<◌, max, true, List, [], ◌∷◌, ◌++◌, length, map, take, drop, get_or, refl, sym, ap, ◌∙◌, subst, le_refl, arith, length-append, length-drop, length-take}
 use Rattle.std.proofs.lemmas.List.{drop-drop, drop-append-le, map-append, length-map, drop_all}
 use Rattle.gj_base.specs.declared.item.Item.{Item}
 use Rattle.gj_base.specs.declared.item.Entry.{Entry}
@@ -9,13 +9,13 @@ use Rattle.gj_base.specs.declared.history.Shown.{Shown}
 use Rattle.gj_base.specs.Configuration.{Configuration, IsConfiguration}
 use Rattle.gj_base.specs.History.{base, items_of, length_of, extend, entries_by, windowed, window, more, conf_of, empty_shown, StandsFor}
 use Rattle.gj_base.specs.Kept.{placed, row_of, next_place}
-use Rattle.gj_base.proofs.Windows.{base_mono, base_aligned, base_le, items_back, more_conf}
+use Rattle.gj_base.proofs.Windows.{base_mono, base_aligned, base_le, items_back, more_conf, take_one_more}
 use Rattle.gj_keep.specs.Rows.{first_place, item_of, opened, good}
 use Rattle.gj_keep.specs.Books.{KeepsFrom}
 use Rattle.gj_keep.proofs.RowLemmas.{placed_items, items_placed, placed_length}
 use Rattle.gj_keep.proofs.StoreLemmas.{Sound, sound_of, base_before}
 
-placed_append : (p : ℕ) (xs ys : List Item) → placed p (xs ++ ys) ≡ placed p xs ++ placed (p + length xs) ys
+pub placed_append : (p : ℕ) (xs ys : List Item) → placed p (xs ++ ys) ≡ placed p xs ++ placed (p + length xs) ys
 placed_append p [] ys = ap (λ (n : ℕ). placed n ys) (let e : p ≡ p + 0 = omega arith in e)
 placed_append p (x ∷ xs) ys =
     let here : KeptItem = row_of p x in
@@ -160,3 +160,9 @@ pub stands_again : (w : Shown) (conf : Configuration) (rows : List KeptItem) (h 
     → StandsFor w (opened rows) → StandsFor w h
 stands_again w conf rows h is same stands =
     stands ∙ ((λ i. window (is i).capacity (is i).segments (opened rows)) ∙ (same ∙ (λ i. window (sym is i).capacity (sym is i).segments h)))
+
+-- one interaction more, and one row more
+pub placed_more : (from i : ℕ) (items : List Item) (x : Item) → i < length items → x ≡ get_or items i x → placed from (take (i + 1) items) ≡ placed from (take i items) ++ row_of (from + i) x ∷ []
+placed_more from i items x low is =
+    let count : from + length (take i items) ≡ from + i = omega (arith, length-take i items) in
+    ap (placed from) (take_one_more items i x low is) ∙ (placed_append from (take i items) (x ∷ []) ∙ ap (λ (p : ℕ). placed from (take i items) ++ row_of p x ∷ []) count)

@@ -1,4 +1,7 @@
 //! A keeper that keeps its rows in memory.
+ghost use Rattle.std.specs.Prelude.{◌≡◌, ◌≤◌, ◌+◌, ◌∷◌, [], ◌++◌, ◌^◌, length, map, filter, nat_le, IfOk, OnOk, OnErr, IsErrOf};
+ghost use Rattle.gj_base.specs.declared.keeper.KeepError.TheVariants.{Failed};
+ghost use Rattle.gj_base.specs.Kept.{placed, row_of, without_moment};
 
 use gj_base::{Calls, Item, KeepError, Keeper, KeptConf, KeptItem, STORE_VERSION};
 use std::alloc::Global;
@@ -14,11 +17,9 @@ pub struct MemoryKeeper {
 }
 
 impl MemoryKeeper {
-    ghost use Rattle.std.specs.Prelude.{◌≡◌, ◌≤◌, ◌↔◌, None, [], true, false, IsTrue, IsErr, IsErrOf};
-    ghost use Rattle.gj_base.specs.declared.keeper.KeepError.TheVariants.{Failed, Memory};
-    ghost use Rattle.gj_base.specs.Causes.{faults_after};
-    ghost use Rattle.gj_base.specs.CallNumbers.{counted, fails_next};
-    ghost use Rattle.gj_keep.specs.MemoryStores.{kept_by, faults_by, calls_by, IsSteady};
+    ghost use Rattle.std.specs.Prelude.{◌≡◌, None, [], true, false, IsErrOf};
+    ghost use Rattle.gj_base.specs.declared.keeper.KeepError.TheVariants.{Memory};
+    ghost use Rattle.gj_keep.specs.MemoryStores.{kept_by, faults_by, calls_by, IsCall, IsSteady};
 
     /// A keeper that keeps nothing yet. It takes no memory.
     pub fn new(alloc: Global, fails: Vec<u64>) -> Self
@@ -47,13 +48,9 @@ impl MemoryKeeper {
 
     /// Counts a call, which may be one that fails.
     fn call(&mut self) -> Result<(), KeepError>
-        ensures failed { IsErr result ↔ IsTrue (fails_next (calls_by self.old)) }
+        ensures call { IsCall self.old self.new result }
         ensures only { IsErrOf result Memory → ⊥ }
         ensures same { kept_by self.new ≡ kept_by self.old }
-        ensures calls { calls_by self.new ≡ counted (calls_by self.old) }
-        ensures count { faults_by self.new ≡ faults_after (faults_by self.old) result }
-        ensures later { faults_by self.old ≤ faults_by self.new }
-        ensures steady { IsSteady self.old → (IsErr result → ⊥) × IsSteady self.new }
     {
         match self.calls.count() {
             Ok(()) => Ok(()),
@@ -62,5 +59,161 @@ impl MemoryKeeper {
                 Err(KeepError::Failed)
             }
         }
+    }
+}
+
+/// Gives each row the moment 0.
+fn forget_moments(rows: &mut [KeptItem])
+    ensures { rows.new ≡ map without_moment rows.old }
+{
+    for row in rows.iter_mut() {
+        row.moment = 0;
+    }
+}
+
+/// The row of an interaction at a place.
+fn row_at(place: u64, item: &Item) -> KeptItem
+    ensures { result ≡ row_of place item.now }
+{
+    KeptItem {
+        place,
+        user: item.user,
+        post: item.post,
+        kind: u64::from(item.kind.number()),
+        moment: item.at,
+    }
+}
+
+/// Puts the row behind the others, or changes nothing.
+fn push_row(rows: &mut Vec<KeptItem>, row: KeptItem) -> Result<(), KeepError>
+    ensures ok { OnOk result (rows.new.items ≡ rows.old.items ++ row ∷ []) }
+    ensures err { OnErr result (rows.new.items ≡ rows.old.items) }
+    ensures only { IsErrOf result Failed → ⊥ }
+{
+    match rows.push(row) {
+        Ok(()) => Ok(()),
+        Err(_) => Err(KeepError::Memory),
+    }
+}
+
+/// Puts the rows of the items behind the others, or changes nothing.
+fn push_rows(rows: &mut Vec<KeptItem>, from: u64, items: &[Item]) -> Result<(), KeepError>
+    requires room { from + length items.now ≤ 2 ^ 48 }
+    ensures ok { OnOk result (rows.new.items ≡ rows.old.items ++ placed from items.now) }
+    ensures err { OnErr result (rows.new.items ≡ rows.old.items) }
+    ensures only { IsErrOf result Failed → ⊥ }
+{
+    let before = rows.len();
+    for (i, item) in items.iter().enumerate() {
+        if let Err(why) = push_row(rows, row_at(from + i as u64, item)) {
+            rows.truncate(before);
+            return Err(why);
+        }
+    }
+    Ok(())
+}
+
+/// Drops the rows below the place.
+fn drop_below(rows: &mut Vec<KeptItem>, below: u64)
+    ensures { rows.new.items ≡ filter (λ row. nat_le below row.place) rows.old.items }
+{
+    rows.retain(|row| below <= row.place);
+}
+
+/// A copy of the rows.
+fn copy_of(alloc: Global, rows: &[KeptItem]) -> Result<Vec<KeptItem>, KeepError>
+    ensures ok { IfOk result (λ copy. copy.items ≡ rows.now) }
+    ensures only { IsErrOf result Failed → ⊥ }
+{
+    let mut copy = Vec::new(alloc);
+    match copy.extend_from_slice(rows) {
+        Ok(()) => Ok(copy),
+        Err(_) => Err(KeepError::Memory),
+    }
+}
+
+impl Keeper for MemoryKeeper {
+    ghost use Rattle.std.specs.Prelude.{◌≡◌, ◌≤◌, ◌+◌, ◌++◌, ◌^◌, length, filter, nat_le, IfOk, OnOk, OnErr, IsErrOf};
+    ghost use Rattle.std.proofs.lemmas.Bool.{false≢true};
+    ghost use Rattle.gj_base.specs.declared.keeper.KeepError.TheVariants.{Memory};
+    ghost use Rattle.gj_base.specs.Kept.{with_rows, with_conf, migrated, placed, next_place};
+    ghost use Rattle.gj_keep.specs.MemoryStores.{kept_by, faults_by, IsCall, IsSteady};
+
+    ghost kept = { kept_by };
+
+    ghost untold = { λ k bare. absurd (false≢true bare) };
+
+    ghost faults = { faults_by };
+
+    ghost steady = { IsSteady };
+
+    fn conf(&mut self) -> Result<Option<KeptConf>, KeepError>
+        ensures same { kept_by self.new ≡ kept_by self.old }
+        ensures told { IfOk result (λ c. c ≡ (kept_by self.old).conf) }
+        ensures call { IsCall self.old self.new result }
+        ensures only { IsErrOf result Memory → ⊥ }
+    {
+        self.call()?;
+        Ok(self.conf)
+    }
+
+    fn set_conf(&mut self, conf: KeptConf) -> Result<(), KeepError>
+        ensures ok { OnOk result (kept_by self.new ≡ with_conf (kept_by self.old) conf) }
+        ensures err { OnErr result (kept_by self.new ≡ kept_by self.old) }
+        ensures call { IsCall self.old self.new result }
+        ensures only { IsErrOf result Memory → ⊥ }
+    {
+        self.call()?;
+        self.conf = Some(conf);
+        Ok(())
+    }
+
+    fn rows(&mut self, alloc: Global) -> Result<Vec<KeptItem>, KeepError>
+        ensures same { kept_by self.new ≡ kept_by self.old }
+        ensures told { IfOk result (λ rows. rows.items ≡ (kept_by self.old).rows) }
+        ensures call { IsCall self.old self.new result }
+    {
+        self.call()?;
+        copy_of(alloc, &self.rows)
+    }
+
+    fn append(&mut self, from: u64, items: &[Item]) -> Result<(), KeepError>
+        requires room { from + length items.now ≤ 2 ^ 48 }
+        ensures ok { OnOk result (kept_by self.new ≡ with_rows (kept_by self.old) ((kept_by self.old).rows ++ placed from items.now)) }
+        ensures err { OnErr result (kept_by self.new ≡ kept_by self.old) }
+        ensures call { IsCall self.old self.new result }
+    {
+        self.call()?;
+        push_rows(&mut self.rows, from, items)
+    }
+
+    fn trim(&mut self, below: u64) -> Result<(), KeepError>
+        ensures ok { OnOk result (kept_by self.new ≡ with_rows (kept_by self.old) (filter (λ row. nat_le below row.place) (kept_by self.old).rows)) }
+        ensures err { OnErr result (kept_by self.new ≡ kept_by self.old) }
+        ensures call { IsCall self.old self.new result }
+        ensures only { IsErrOf result Memory → ⊥ }
+    {
+        self.call()?;
+        drop_below(&mut self.rows, below);
+        Ok(())
+    }
+
+    fn migrate(&mut self) -> Result<(), KeepError>
+        ensures ok { OnOk result (kept_by self.new ≡ migrated (kept_by self.old)) }
+        ensures err { OnErr result (kept_by self.new ≡ kept_by self.old) }
+        ensures call { IsCall self.old self.new result }
+        ensures only { IsErrOf result Memory → ⊥ }
+    {
+        self.call()?;
+        if let Some(conf) = self.conf {
+            if conf.version == 1 {
+                self.conf = Some(KeptConf {
+                    version: STORE_VERSION,
+                    ..conf
+                });
+                forget_moments(&mut self.rows);
+            }
+        }
+        Ok(())
     }
 }
