@@ -7,11 +7,13 @@
 mod book;
 mod filling;
 mod memory_keeper;
+mod memory_keepers;
 mod no_keeper;
 mod opening;
 mod reading;
 
 pub use book::Book;
 pub use memory_keeper::MemoryKeeper;
+pub use memory_keepers::MemoryKeepers;
 pub use no_keeper::{NoKeeper, NoKeepers};
 pub use opening::{OpenError, OpenRefused};
