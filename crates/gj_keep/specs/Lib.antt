@@ -1,4 +1,5 @@
 pub mod Books
+pub mod Locals
 pub mod MemoryHomes
 pub mod MemoryStores
 pub mod Openings

@@ -86,6 +86,7 @@ impl<K: Keeper> Book<K> {
         ensures err { (h : History) → BookKeeps self.old h → OnErr result (BookKeeps self.new h) }
         ensures rows_err { OnErr result (self.new.kept ≡ self.old.kept) }
         ensures length { OnOk result (self.new.length ≡ self.old.length + length items.now) }
+        ensures length_err { OnErr result (self.new.length ≡ self.old.length) }
         ensures same { self.new.conf ≡ self.old.conf }
         ensures kind { (self.new.kept.tells ≡ self.old.kept.tells) × (self.new.kept.bare ≡ self.old.kept.bare) }
         ensures count { self.new.faults ≡ faults_after self.old.faults result }
@@ -104,7 +105,9 @@ impl<K: Keeper> Book<K> {
         requires few { length items.now ≤ 4096 }
         ensures ok { (h : History) (by : ℕ) → BookKeeps self.old h → OnOk result (BookKeeps self.new (extend h (entries_by by items.now))) }
         ensures receipt { IfOk result (λ r. (r.from ≡ self.old.length) × (r.to ≡ self.old.length + length items.now)) }
+        ensures length { OnOk result (self.new.length ≡ self.old.length + length items.now) }
         ensures err { (h : History) → BookKeeps self.old h → OnErr result (BookKeeps self.new h) }
+        ensures length_err { OnErr result (self.new.length ≡ self.old.length) }
         ensures full { IfErr result (λ why. (n : ℕ) → why ≡ Full n → (n ≡ self.old.length) × (2 ^ 48 < self.old.length + length items.now) × (self.new ≡ self.old)) }
         ensures room { 2 ^ 48 < self.old.length + length items.now → IsErrOf result (Full self.old.length) }
         ensures count { self.new.faults ≡ faults_posted self.old.faults result }

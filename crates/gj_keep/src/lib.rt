@@ -6,6 +6,7 @@
 
 mod book;
 mod filling;
+mod local;
 mod memory_keeper;
 mod memory_keepers;
 mod no_keeper;
@@ -13,6 +14,7 @@ mod opening;
 mod reading;
 
 pub use book::Book;
+pub use local::Local;
 pub use memory_keeper::MemoryKeeper;
 pub use memory_keepers::MemoryKeepers;
 pub use no_keeper::{NoKeeper, NoKeepers};

@@ -10,6 +10,7 @@ use std::snapshot::Snapshot;
 
 /// Hands out its one keeper, whatever the path. It fails the calls of `keeper_at` whose numbers, from 1, are in the list
 /// `fails`.
+#[derive(Drop)]
 pub struct MemoryKeepers {
     kept: Option<MemoryKeeper>,
     last: Snapshot<MemoryKeeper>,
@@ -48,7 +49,12 @@ impl MemoryKeepers {
 impl Keepers for MemoryKeepers {
     type Kept = MemoryKeeper;
 
-    ghost use Rattle.gj_keep.specs.MemoryHomes.{stored_by, is_home, own_faults, faults_known};
+    ghost use Rattle.std.specs.Prelude.{◌≡◌, ◌≤◌, ◌+◌, ◌↔◌, true, false, IfOk, OnErr, IsErr, IsErrOf, IsTrue};
+    ghost use Rattle.gj_base.specs.declared.keeper.KeepError.TheVariants.{Memory};
+    ghost use Rattle.gj_base.specs.Causes.{faults_after};
+    ghost use Rattle.gj_base.specs.CallNumbers.{counted, fails_next};
+    ghost use Rattle.gj_keep.specs.MemoryStores.{kept_by, faults_by};
+    ghost use Rattle.gj_keep.specs.MemoryHomes.{stored_by, is_home, own_faults, faults_known, calls_on};
 
     ghost stored = { stored_by };
 
@@ -61,7 +67,20 @@ impl Keepers for MemoryKeepers {
     // The keeper that comes back may be any, so none is said to fail no call.
     ghost steady = { λ _. ⊥ };
 
-    fn keeper_at(&mut self, _alloc: Global, _path: &str) -> Result<MemoryKeeper, KeepError> {
+    fn keeper_at(&mut self, _alloc: Global, _path: &str) -> Result<MemoryKeeper, KeepError>
+        requires { IsTrue (is_home self.old) }
+        ensures stored { stored_by self.new ≡ stored_by self.old }
+        ensures ok { IfOk result (λ k. (is_home self.new ≡ false) × (kept_by k ≡ stored_by self.old)) }
+        ensures known { IfOk result (λ k. faults_known self.new ≤ own_faults self.new + faults_by k) }
+        ensures err { OnErr result (is_home self.new ≡ true) }
+
+        ensures failed { IsErr result ↔ IsTrue (fails_next (calls_on self.old)) }
+        ensures calls { calls_on self.new ≡ counted (calls_on self.old) }
+        ensures only { IsErrOf result Memory → ⊥ }
+        ensures own { own_faults self.new ≡ faults_after (own_faults self.old) result }
+        ensures count { faults_known self.new ≡ faults_after (faults_known self.old) result }
+        ensures later { faults_known self.old ≤ faults_known self.new }
+    {
         if let Err(_) = self.calls.count() {
             self.own = self.own.saturating_add(1);
             self.faults = self.faults.saturating_add(1);
