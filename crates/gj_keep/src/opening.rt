@@ -18,7 +18,7 @@ use std::alloc::Global;
 use std::snapshot::Snapshot;
 
 /// Why an opening is refused.
-#[derive(Drop)]
+#[derive(Clone, Copy, Debug, Drop, PartialEq, Eq)]
 pub enum OpenError {
     /// No memory was found.
     Memory,
@@ -33,6 +33,7 @@ pub enum OpenError {
 }
 
 /// A refused opening, with the keeper.
+#[derive(Drop)]
 pub struct OpenRefused<K> {
     pub keeper: K,
     pub why: OpenError,

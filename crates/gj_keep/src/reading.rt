@@ -8,7 +8,11 @@ use gj_base::{Conf, HISTORY_END, KeptItem, MAX_ID};
 fn in_range(row: &KeptItem) -> bool
     ensures { result ≡ is_in_range row.now }
 {
-    row.user <= MAX_ID && row.post <= MAX_ID && row.kind <= 4 && row.moment <= MAX_ID && row.place < HISTORY_END
+    row.user <= MAX_ID
+        && row.post <= MAX_ID
+        && row.kind <= 4
+        && row.moment <= MAX_ID
+        && row.place < HISTORY_END
 }
 
 /// Whether so many rows may begin at the place. Their last place may pass all that a `u64` has.

@@ -39,8 +39,7 @@ returns-clause-again g c h tells keeps =
     let value : c.deref-in-Ok-graphs_of.result.now ≡ rows = c.deref-in-Ok-graphs_of.ensures.value in
     let first : c.first_of-first.result ≡ first_place rows = c.first_of-first.ensures ∙ ap first_place value in
     let count : c.len.result ≡ length rows = c.len.ensures ∙ (sym c.deref-in-Ok-graphs_of.ensures.len ∙ ap length value) in
-    let some = c.room-room.ensures.conf.segments_low in
-    (
+    let some = c.room-room.ensures.conf.segments_low in (
       keeps_again c.args.conf _ _ rows _ _ _ h some c.in-Ok.ensures.ok (keeps tells) (c.in-Ok.ensures.told tells) first (omega arith),
       (λ i d low.
           let shows : Shows (g.W.Graph.shown (get_or c.in-Ok-graphs_of.graphs.items i d)) c.args.conf (opened rows) =
