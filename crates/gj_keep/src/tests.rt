@@ -1,0 +1,317 @@
+ghost use Rattle.std.specs.Prelude.{◌+◌, ◌^◌, ◌<◌};
+
+use super::*;
+use gj_base::{
+    Conf, Graph, HISTORY_END, Index, IndexError, Item, KeepError, Keeper, Keepers, KeptConf,
+    KeptItem, Kind, ListGraph, MAX_ID, Receipt, Side,
+};
+use std::alloc::{AllocError, Global};
+use std::process::Abort;
+use std::test::Fail;
+
+type Rows = Local<MemoryKeeper, ListGraph>;
+
+fn item(rt: &impl Abort, user: u64) -> Item {
+    Item::make(user, 10, Kind::Favorite, 5).expect(rt, "all are identifiers")
+}
+
+fn row(place: u64) -> KeptItem {
+    KeptItem {
+        place,
+        user: 1,
+        post: 10,
+        kind: 1,
+        moment: 5,
+    }
+}
+
+/// So many rows from a place on.
+fn rows_at(alloc: Global, first: u64, count: u64) -> Result<Vec<KeptItem>, AllocError>
+    requires { first + count < 2 ^ 64 }
+{
+    let mut rows = Vec::new(alloc);
+    for i in 0..count {
+        rows.push(row(first + i))?;
+    }
+    Ok(rows)
+}
+
+fn kept(version: u64, capacity: u64, segments: u64) -> Option<KeptConf> {
+    Some(KeptConf {
+        version,
+        capacity,
+        segments,
+    })
+}
+
+/// The index over the keeper, under 16 interactions a segment.
+fn open(
+    rt: &impl Abort,
+    alloc: Global,
+    segments: u32,
+    keeper: MemoryKeeper,
+) -> Result<Rows, OpenRefused<MemoryKeeper>> {
+    let conf = Conf::make(16, segments).expect(rt, "both are in range");
+    Local::open_local(alloc, conf, keeper)
+}
+
+fn index_of(rt: &impl Abort, alloc: Global, segments: u32, keeper: MemoryKeeper) -> Rows {
+    match open(rt, alloc, segments, keeper) {
+        Ok(index) => index,
+        Err(refused) => panic!(rt; "{:?}", refused.why),
+    }
+}
+
+fn refused(
+    rt: &impl Abort,
+    alloc: Global,
+    segments: u32,
+    keeper: MemoryKeeper,
+) -> (OpenError, MemoryKeeper) {
+    match open(rt, alloc, segments, keeper) {
+        Ok(_) => panic!(rt; "it was opened"),
+        Err(refused) => (refused.why, refused.keeper),
+    }
+}
+
+#[test]
+fn a_batch_that_passes_the_last_place_is_full(rt: HostRuntime) -> Result<(), Fail> {
+    let alloc = rt.alloc();
+    let end = HISTORY_END;
+    let rows = rows_at(alloc, end - 32, 31)?;
+    let keeper = MemoryKeeper::of(kept(2, 16, 2), rows, Vec::new(alloc));
+    let mut index = index_of(&rt, alloc, 2, keeper);
+    let x = item(&rt, 1);
+    assert_eq!(rt;
+        index.post_items(&[x, x]),
+        Err(IndexError::Full { length: end - 1 })
+    );
+    assert_eq!(rt;
+        index.post_items(&[x]),
+        Ok(Receipt {
+            from: end - 1,
+            to: end
+        })
+    );
+    assert_eq!(rt;
+        index.post_items(&[x]),
+        Err(IndexError::Full { length: end })
+    );
+    Ok(())
+}
+
+#[test]
+fn a_post_that_is_not_kept_takes_no_place(rt: HostRuntime) -> Result<(), Fail> {
+    let alloc = rt.alloc();
+    let mut index = index_of(&rt, alloc, 1, MemoryKeeper::new(alloc, vec![in alloc; 5]?));
+    assert_eq!(rt;
+        index.post_items(&[item(&rt, 1)]),
+        Ok(Receipt { from: 0, to: 1 })
+    );
+    assert_eq!(rt; index.post_items(&[item(&rt, 2)]), Err(IndexError::Store));
+    assert_eq!(rt;
+        index.post_items(&[item(&rt, 3)]),
+        Ok(Receipt { from: 1, to: 2 })
+    );
+    let again = index_of(&rt, alloc, 1, index.into_keeper());
+    assert_eq!(rt; again.view().length(), 2);
+    for (user, count) in [(1, 1), (2, 0), (3, 1)] {
+        assert_eq!(rt;
+            again.view().count(Side::User, user, gj_base::Mask::all()),
+            count,
+            "user {user}"
+        );
+    }
+    Ok(())
+}
+
+/// Three calls open the store; the five posts append, but the fourth trims first.
+#[test]
+fn each_call_that_fails_costs_the_opening_or_one_post(rt: HostRuntime) -> Result<(), Fail> {
+    let alloc = rt.alloc();
+    let batch = [item(&rt, 1); 8];
+    for fault in 1..11u64 {
+        let keeper = MemoryKeeper::new(alloc, vec![in alloc; fault]?);
+        let mut index = if fault < 4 {
+            let (why, keeper) = refused(&rt, alloc, 1, keeper);
+            assert_eq!(rt; why, OpenError::Store, "call {fault}");
+            index_of(&rt, alloc, 1, keeper)
+        } else {
+            index_of(&rt, alloc, 1, keeper)
+        };
+        let mut posted = 0u64;
+        for _ in 0..5 {
+            match index.post_items(&batch) {
+                Ok(_) => posted = posted.saturating_add(1),
+                Err(why) => assert_eq!(rt; why, IndexError::Store, "call {fault}"),
+            }
+        }
+        let all = fault < 4 || fault == 10;
+        assert_eq!(rt; posted, if all { 5 } else { 4 }, "call {fault}");
+        let mut keeper = index.into_keeper();
+        if fault == 10 {
+            assert_eq!(rt; keeper.conf(), Err(KeepError::Failed));
+        }
+        let again = index_of(&rt, alloc, 1, keeper);
+        let shown = (again.view().base(), again.view().length());
+        assert_eq!(rt;
+            shown,
+            if all { (32, 40) } else { (16, 32) },
+            "call {fault}"
+        );
+    }
+    Ok(())
+}
+
+/// Under two segments of 16.
+#[test]
+fn the_first_bad_row_is_named(rt: HostRuntime) -> Result<(), Fail> {
+    let alloc = rt.alloc();
+    let end = HISTORY_END;
+    let runs = [
+        (end - 16, 20, 16),
+        (end - 16, 16, 0),
+        (end, 17, 0),
+        (u64::MAX - 31, 17, 0),
+        (8, 40, 0),
+        (16, 16, 0),
+    ];
+    for (first, count, bad) in runs {
+        let keeper = MemoryKeeper::of(
+            kept(2, 16, 2),
+            rows_at(alloc, first, count)?,
+            Vec::new(alloc),
+        );
+        let (why, _) = refused(&rt, alloc, 2, keeper);
+        assert_eq!(rt; why, OpenError::KeptRow { row: bad }, "from {first}");
+    }
+    let rows = [
+        KeptItem { place: 4, ..row(3) },
+        KeptItem {
+            user: MAX_ID + 1,
+            ..row(3)
+        },
+        KeptItem {
+            post: MAX_ID + 1,
+            ..row(3)
+        },
+        KeptItem { kind: 5, ..row(3) },
+        KeptItem {
+            moment: MAX_ID + 1,
+            ..row(3)
+        },
+    ];
+    for bad in rows {
+        let mut rows = rows_at(alloc, 0, 3)?;
+        rows.push(bad)?;
+        rows.push(row(4))?;
+        let (why, _) = refused(
+            &rt,
+            alloc,
+            2,
+            MemoryKeeper::of(kept(2, 16, 2), rows, Vec::new(alloc)),
+        );
+        assert_eq!(rt; why, OpenError::KeptRow { row: 3 }, "{bad:?}");
+    }
+    for (first, count, base) in [(16, 17, 16), (0, 0, 0), (0, 33, 16)] {
+        let keeper = MemoryKeeper::of(
+            kept(2, 16, 2),
+            rows_at(alloc, first, count)?,
+            Vec::new(alloc),
+        );
+        let index = index_of(&rt, alloc, 2, keeper);
+        assert_eq!(rt;
+            (index.view().base(), index.view().length()),
+            (base, first + count)
+        );
+    }
+    Ok(())
+}
+
+#[test]
+fn a_store_of_another_configuration_or_a_later_version_is_refused(
+    rt: HostRuntime,
+) -> Result<(), Fail> {
+    let alloc = rt.alloc();
+    for (version, capacity, segments) in [(3, 16, 2), (0, 16, 2), (2, 32, 2), (1, 16, 1)] {
+        let conf = kept(version, capacity, segments);
+        let keeper = MemoryKeeper::of(conf, rows_at(alloc, 0, 1)?, Vec::new(alloc));
+        let (why, mut keeper) = refused(&rt, alloc, 2, keeper);
+        let asked = KeptConf {
+            version: 2,
+            capacity: 16,
+            segments: 2,
+        };
+        let kept = conf.expect(&rt, "it is kept");
+        assert_eq!(rt; why, OpenError::ConfDiffers { kept, asked });
+        assert_eq!(rt; keeper.conf(), Ok(conf));
+    }
+    Ok(())
+}
+
+#[test]
+fn a_store_of_the_first_version_is_migrated_by_opening_it(rt: HostRuntime) -> Result<(), Fail> {
+    let alloc = rt.alloc();
+    let keeper = MemoryKeeper::of(kept(1, 16, 2), rows_at(alloc, 0, 1)?, Vec::new(alloc));
+    let index = index_of(&rt, alloc, 2, keeper);
+    assert!(rt; index.view().base() == 0 && index.view().length() == 1);
+    let shown = index.view().item(0);
+    assert_eq!(rt; (shown.kind, shown.at), (Kind::Favorite, 0));
+    assert_eq!(rt; index.into_keeper().conf(), Ok(kept(2, 16, 2)));
+
+    let keeper = MemoryKeeper::of(kept(1, 16, 2), rows_at(alloc, 0, 1)?, vec![in alloc; 2]?);
+    let (why, mut keeper) = refused(&rt, alloc, 2, keeper);
+    assert_eq!(rt; why, OpenError::Store);
+    assert_eq!(rt; keeper.conf(), Ok(kept(1, 16, 2)));
+    Ok(())
+}
+
+#[test]
+fn a_book_is_opened_with_two_equal_graphs(rt: HostRuntime) -> Result<(), Fail> {
+    let alloc = rt.alloc();
+    let conf = Conf::make(16, 2).expect(&rt, "both are in range");
+    let keeper = MemoryKeeper::of(None, rows_at(alloc, 0, 40)?, Vec::new(alloc));
+    let opened = Book::<MemoryKeeper>::open_book::<ListGraph>(alloc, conf, keeper, 2);
+    let Ok((mut book, graphs, _)) = opened else {
+        panic!(rt; "it was refused");
+    };
+    assert_eq!(rt; (book.length(), graphs.len()), (40, 2));
+    for graph in &graphs {
+        assert_eq!(rt; (graph.base(), graph.length()), (16, 40));
+    }
+    assert_eq!(rt;
+        book.keep(&[item(&rt, 2)]),
+        Ok(Receipt { from: 40, to: 41 })
+    );
+    let mut keeper = book.into_keeper();
+    assert_eq!(rt; keeper.conf(), Ok(kept(2, 16, 2)));
+    match keeper.rows(alloc) {
+        Ok(rows) => assert_eq!(rt; (rows.len(), rows.first().map(|x| x.place)), (25, Some(16))),
+        Err(_) => panic!(rt; "no row is told"),
+    }
+    Ok(())
+}
+
+#[test]
+fn a_keeper_leaves_home_and_comes_back(rt: HostRuntime) -> Result<(), Fail> {
+    let alloc = rt.alloc();
+    let kept = MemoryKeeper::new(alloc, vec![in alloc; 1]?);
+    let mut keepers = MemoryKeepers::new(kept, vec![in alloc; 1]?);
+    for failed in [true, false, false] {
+        match keepers.keeper_at(alloc, "any") {
+            Err(why) => assert_eq!(rt; (why, failed), (KeepError::Failed, true)),
+            Ok(keeper) => {
+                assert!(rt; !failed);
+                let mut keeper = keeper;
+                let _ = keeper.trim(0);
+                keepers.take_back(keeper);
+            }
+        }
+    }
+    let mut none = NoKeepers::new();
+    if let Ok(mut keeper) = none.keeper_at(alloc, "") {
+        assert_eq!(rt; keeper.migrate(), Ok(()));
+        none.take_back(keeper);
+    }
+    Ok(())
+}
