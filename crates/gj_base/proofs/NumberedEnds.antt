@@ -12,7 +12,7 @@ use Rattle.gj_base.specs.declared.kind.Kind.TheVariants.{Click}
 use Rattle.gj_base.specs.Ends.{ends, is_eligible, end_across, vertex_on, vertex_across, other_side}
 use Rattle.gj_base.specs.Kinds.{lets}
 use Rattle.gj_base.specs.Firsts.{number_in, firsts, place_of, HasNoRepeat}
-use Rattle.gj_base.specs.Numbered.{numbered, numbered_by, vertices_of}
+use Rattle.gj_base.specs.Numbered.{numbered, numbered_by, named_by, vertices_of}
 use Rattle.gj_base.proofs.FirstLemmas.{IsIn, place_of-Some, in-firsts, numbered-in, found-in, number_in-at, distinct-firsts}
 
 map_both : {X Y Z : Type 0} (f : Y → Z) (g : X → Y) (xs : List X) → map f (map g xs) ≡ map (λ (x : X). f (g x)) xs
@@ -66,6 +66,33 @@ on_side items side i d h =
 near_is : (items : List Item) (side : Side) (x : Item) → vertex_on side (numbered_by (vertices_of items User) (vertices_of items Post) x) ≡ number_in (vertices_of items side) (vertex_on side x)
 near_is items User x = refl
 near_is items Post x = refl
+
+-- each vertex of a side has its number below theirs
+pub numbered-below : (items : List Item) (side : Side) (i : ℕ) (d : Item) → i < length items
+    → vertex_on side (get_or (numbered items) i d) < length (vertices_of items side)
+unfolding numbered
+numbered-below items side i d h =
+    let x0 : Item = record { user = 0; post = 0; kind = Click; at = 0 } in
+    let is = get_or-map (numbered_by (vertices_of items User) (vertices_of items Post)) items i x0 d h in
+    rw is (rw (near_is items side (get_or items i x0)) (on_side items side i x0 h).0)
+
+map_back : {X : Type 0} (f : X → X) (xs : List X) → ((i : ℕ) (d : X) → i < length xs → f (get_or xs i d) ≡ get_or xs i d) → map f xs ≡ xs
+map_back f [] each = refl
+map_back f (x ∷ xs) each =
+    let here : f x ≡ x = each zero x (omega arith) in
+    let rest = map_back f xs (λ i d lt. each (suc i) d (omega arith)) in
+    rw (here, rest) refl
+
+-- what is numbered and named is as it was
+pub named-numbered : (items : List Item) → map (named_by (vertices_of items User) (vertices_of items Post)) (numbered items) ≡ items
+unfolding numbered
+named-numbered items =
+    map_both (named_by (vertices_of items User) (vertices_of items Post)) (numbered_by (vertices_of items User) (vertices_of items Post)) items
+    ∙ map_back (λ (x : Item). named_by (vertices_of items User) (vertices_of items Post) (numbered_by (vertices_of items User) (vertices_of items Post) x)) items
+    (λ i d h.
+    let a = (on_side items User i d h).1 in
+    let b = (on_side items Post i d h).1 in
+    rw (a, b) refl)
 
 far_is : (items : List Item) (side : Side) (x : Item) → vertex_across side (numbered_by (vertices_of items User) (vertices_of items Post) x) ≡ number_in (vertices_of items (other_side side)) (vertex_on (other_side side) x)
 far_is items User x = refl

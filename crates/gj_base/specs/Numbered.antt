@@ -1,5 +1,5 @@
 -- A segment: interactions whose vertices are numbered, on each side, in the order of their first appearance.
-use Rattle.std.specs.Prelude.{ℕ, ◌==◌, Bool, List, map, filter}
+use Rattle.std.specs.Prelude.{ℕ, ◌==◌, Bool, List, map, filter, slice_index}
 use Rattle.gj_base.specs.declared.side.Side.{Side}
 use Rattle.gj_base.specs.declared.side.Side.TheVariants.{User, Post}
 use Rattle.gj_base.specs.declared.kind.Kind.{Kind}
@@ -20,6 +20,10 @@ numbered_by users posts x = record { user = number_in users x.user; post = numbe
 -- the interactions with numbers for identifiers
 unfoldable pub numbered : List Item → List Item
 numbered items = map (numbered_by (vertices_of items User) (vertices_of items Post)) items
+
+-- the interaction with the identifiers of these numbers
+abbrev pub named_by : List ℕ → List ℕ → Item → Item
+named_by users posts x = record { user = slice_index users x.user; post = slice_index posts x.post; kind = x.kind; at = x.at }
 
 -- where the interaction leads from a side, with its kind and its moment
 abbrev pub dated_across : Side → Item → ℕ × Kind × ℕ
