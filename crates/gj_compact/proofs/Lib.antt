@@ -1,0 +1,6 @@
+pub mod CellLemmas
+pub mod CompactLemmas
+pub mod LaneLemmas
+pub mod NoteLemmas
+pub mod OpenLemmas
+pub mod TurnLemmas

@@ -1,0 +1,101 @@
+-- How the ends of each vertex lie in one array, oldest first.
+use Rattle.std.specs.Prelude.{◌≡◌, ℕ, ◌+◌, ◌-◌, ◌<◌, ◌≤◌, List, [], ◌∷◌, ◌++◌, length, map, replicate, take, drop, sum_by, slice_index_or, slice_set}
+use Rattle.gj_compact.specs.declared.lane.Row.{Row}
+use Rattle.gj_compact.specs.declared.edge.End.{End}
+
+-- what contracts see: one list of ends per vertex, how many more each may take at once, and how many were noted
+pub record Laned : Type 0 where
+  pub runs : List (List End)
+  pub spare : List ℕ
+  pub fresh : List ℕ
+  pub room : ℕ
+
+-- the ends of vertex v
+abbrev pub run_of : List (List End) → ℕ → List End
+run_of runs v = slice_index_or runs v []
+
+-- the ends of a row
+abbrev pub row_run : List End → Row → List End
+row_run cells row = take row.len (drop row.start cells)
+
+-- the place after what the row may hold
+abbrev pub row_end : Row → ℕ
+row_end row = row.start + row.len + row.spare
+
+abbrev pub shown_by : List Row → List End → Laned
+shown_by rows cells = record {
+  runs = map (row_run cells) rows;
+  spare = map (λ (row : Row). row.spare) rows;
+  fresh = map (λ (row : Row). row.fresh) rows;
+  room = length cells;
+}
+
+-- the rows lie one behind the other
+pub record AreLaid (rows : List Row) (size : ℕ) : Type 0 where
+  pub within : (v : ℕ) (d : Row) → v < length rows → row_end (slice_index_or rows v d) ≤ size
+  pub apart : (v w : ℕ) (d : Row) → v < w → w < length rows → row_end (slice_index_or rows v d) ≤ (slice_index_or rows w d).start
+
+-- what stays true of a lane
+pub record IsLane (rows : List Row) (cells back : List End) : Type 0 where
+  pub small : length cells ≤ 8388608
+  pub same : length back ≡ length cells
+  pub laid : AreLaid rows (length cells)
+
+-- what a row holds, and what was noted for it
+abbrev pub want_of : Row → ℕ
+want_of row = row.len + row.fresh
+
+-- how many ends there are
+abbrev pub total_of : List (List End) → ℕ
+total_of runs = sum_by (λ (run : List End). length run) runs
+
+-- how many were noted
+abbrev pub sum_of : List ℕ → ℕ
+sum_of notes = sum_by (λ (n : ℕ). n) notes
+
+-- all ends and what was noted
+abbrev pub wanted : Laned → ℕ
+wanted lane = total_of lane.runs + sum_of lane.fresh
+
+-- the same ends, each vertex with room for what was noted
+abbrev pub opened : Laned → Laned
+opened lane = record {
+  runs = lane.runs;
+  spare = lane.fresh;
+  fresh = map (λ (n : ℕ). 0) lane.fresh;
+  room = lane.room;
+}
+
+-- no ends, and nothing noted
+abbrev pub emptied : Laned → Laned
+emptied lane = record {
+  runs = replicate (length lane.runs) [];
+  spare = replicate (length lane.runs) 0;
+  fresh = replicate (length lane.runs) 0;
+  room = lane.room;
+}
+
+-- the lists after one more end for vertex v, and after its first one is gone
+abbrev pub pushed : Laned → ℕ → End → Laned
+pushed lane v end = record {
+  runs = slice_set lane.runs v (run_of lane.runs v ++ end ∷ []);
+  spare = slice_set lane.spare v (slice_index_or lane.spare v 0 - 1);
+  fresh = lane.fresh;
+  room = lane.room;
+}
+
+abbrev pub popped : Laned → ℕ → Laned
+popped lane v = record {
+  runs = slice_set lane.runs v (drop 1 (run_of lane.runs v));
+  spare = lane.spare;
+  fresh = lane.fresh;
+  room = lane.room;
+}
+
+abbrev pub noted : Laned → ℕ → Laned
+noted lane v = record {
+  runs = lane.runs;
+  spare = lane.spare;
+  fresh = slice_set lane.fresh v (slice_index_or lane.fresh v 0 + 1);
+  room = lane.room;
+}

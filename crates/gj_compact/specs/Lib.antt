@@ -1,0 +1,4 @@
+pub mod Cells
+pub mod Compact
+pub mod Lanes
+pub mod Turns

@@ -1,0 +1,114 @@
+//! Ends in columns: a walk reads the vertices alone, and most queries no moment.
+ghost use Rattle.std.specs.Prelude.{◌≡◌, ◌+◌, ◌<◌, ◌≤◌, IfOk, IfSome, Some, replicate, length, take, drop, slice_get, slice_set};
+ghost use Rattle.gj_compact.specs.Cells.{no_end};
+
+use crate::edge::End;
+use gj_base::{Kind, Memory};
+use std::alloc::Global;
+use std::marker::Model;
+
+/// A list of ends of fixed length: their vertices, their kinds and their moments.
+#[derive(Drop)]
+pub struct Cells {
+    vertices: Vec<u32>,
+    kinds: Vec<Kind>,
+    moments: Vec<u64>,
+}
+
+impl Model for Cells {
+    ghost use Rattle.std.specs.Prelude.{◌≡◌, List, length};
+    ghost use Rattle.gj_compact.specs.declared.edge.End.{End};
+    ghost use Rattle.gj_compact.specs.Cells.{joined};
+
+    ghost Value = { List End };
+
+    ghost view = { λ c. joined c.vertices.items c.kinds.items c.moments.items };
+
+    ghost invariant = { λ c. (length c.kinds.items ≡ length c.vertices.items) × (length c.moments.items ≡ length c.vertices.items) };
+}
+
+/// Copies `len` values of one column into another.
+fn copy_part<T: Copy>(back: &mut [T], to: usize, cells: &[T], from: usize, len: usize)
+    requires to { to + len ≤ length back.old }
+    requires from { from + len ≤ length cells.now }
+    ensures copied { take len (drop to back.new) ≡ take len (drop from cells.now) }
+    ensures before { take to back.new ≡ take to back.old }
+{
+    back[to..to + len].copy_from_slice(&cells[from..from + len]);
+}
+
+impl Cells {
+    /// That many cells. It takes all memory that they will use.
+    pub fn new(alloc: Global, room: u32) -> Result<Cells, Memory>
+        ensures { IfOk result (λ cells. cells ≡ replicate room no_end) }
+    {
+        let Ok(vertices) = vec![in alloc; 0; room as usize] else {
+            return Err(Memory);
+        };
+        let Ok(kinds) = vec![in alloc; Kind::Click; room as usize] else {
+            return Err(Memory);
+        };
+        let Ok(moments) = vec![in alloc; 0; room as usize] else {
+            return Err(Memory);
+        };
+        Ok(Cells {
+            vertices,
+            kinds,
+            moments,
+        })
+    }
+
+    /// How many cells there are.
+    #[inline]
+    pub fn len(&self) -> usize
+        ensures { result ≡ length self.now }
+    {
+        self.vertices.len()
+    }
+
+    /// The end at a place.
+    #[inline]
+    pub fn get(&self, i: usize) -> End
+        requires { i < length self.now }
+        ensures { slice_get self.now i ≡ Some result }
+    {
+        End {
+            vertex: self.vertices[i],
+            kind: self.kinds[i],
+            at: self.moments[i],
+        }
+    }
+
+    /// The vertex of the end at a place.
+    #[inline]
+    pub fn vertex(&self, i: usize) -> u32
+        requires { i < length self.now }
+        ensures { IfSome (slice_get self.now i) (λ end. result ≡ end.vertex) }
+    {
+        self.vertices[i]
+    }
+
+    /// Puts the end at a place.
+    #[inline]
+    pub fn set(&mut self, i: usize, end: End)
+        requires { i < length self.old }
+        ensures { self.new ≡ slice_set self.old i end }
+    {
+        self.vertices[i] = end.vertex;
+        self.kinds[i] = end.kind;
+        self.moments[i] = end.at;
+    }
+
+    /// Copies `len` ends of other cells to the place `to`.
+    pub fn copy_run(&mut self, to: usize, cells: &Cells, from: usize, len: usize)
+        requires to { to + len ≤ length self.old }
+        requires from { from + len ≤ length cells.now }
+        ensures copied { take len (drop to self.new) ≡ take len (drop from cells.now) }
+        ensures before { take to self.new ≡ take to self.old }
+        ensures long { length self.new ≡ length self.old }
+    {
+        copy_part(&mut self.vertices, to, &cells.vertices, from, len);
+        copy_part(&mut self.kinds, to, &cells.kinds, from, len);
+        copy_part(&mut self.moments, to, &cells.moments, from, len);
+    }
+}

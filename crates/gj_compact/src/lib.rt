@@ -1,0 +1,18 @@
+//! The contiguous form: the ends of each vertex beside each other, oldest first.
+//!
+//! Contracts see a `Lane` as one list of ends a vertex, and a `CompactSegment` as the list of its interactions. `new` takes
+//! all memory; no other call takes any.
+#![tactic(auto)]
+
+mod cells;
+mod compact_segment;
+mod edge;
+mod lane;
+mod part;
+mod turns;
+mod view;
+
+pub use compact_segment::CompactSegment;
+pub use edge::{Edge, End};
+pub use lane::Lane;
+pub use turns::{fill, note_all, shed};
