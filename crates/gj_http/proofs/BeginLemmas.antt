@@ -8,7 +8,7 @@ use Rattle.httparse.specs.Grammar.{RequestHead}
 use Rattle.httparse.proofs.GrammarLemmas.{request_unique}
 use Rattle.gj_http.specs.Request.{Request}
 use Rattle.gj_http.specs.Heads.{IsHead, request_of}
-use Rattle.gj_http.specs.Cut.{empty_line, empty_lines, close_of_head, head_end, head_length, head_bytes, after_head, window, BeginsWith, IsMessage, IsRefused}
+use Rattle.gj_http.specs.Cut.{empty_line, empty_lines, close_of_head, head_end, head_length, head_bytes, after_head, reach, BeginsWith, IsMessage, IsRefused}
 use Rattle.gj_http.specs.declared.message.Refused.{Refused}
 use Rattle.gj_http.proofs.FrontLemmas.{empty_lines-le-length, head_end_found, head_end_more}
 use Rattle.gj_http.proofs.BoundLemmas.{head_length-within}
@@ -107,10 +107,10 @@ head_end-append (b ∷ bytes) more n is =
 
 -- ---- the head
 
-pub window-append : (bytes more : List ℕ) → (c : List ℕ) × (window (bytes ++ more) ≡ window bytes ++ c)
-window-append bytes more =
+pub reach-append : (bytes more : List ℕ) → (c : List ℕ) × (reach (bytes ++ more) ≡ reach bytes ++ c)
+reach-append bytes more =
     elim (cases_lt 8192 (length bytes)) [
-      | inl past ↦ ([], take-append-le 8192 bytes more (omega (arith, past)) ∙ sym (append-nil (window bytes)))
+      | inl past ↦ ([], take-append-le 8192 bytes more (omega (arith, past)) ∙ sym (append-nil (reach bytes)))
       | inr short ↦
           let n : 8192 ≡ length bytes + (8192 - length bytes) = omega (arith, short) in (
             take (8192 - length bytes) more,
@@ -122,23 +122,23 @@ window-append bytes more =
 
 -- where the head ends in a beginning, the lines before it are those of the whole
 pub lines_same_in_window : (bytes more : List ℕ) (n : ℕ) → head_length bytes ≡ Some n
-    → empty_lines (window (bytes ++ more)) ≡ empty_lines (window bytes)
+    → empty_lines (reach (bytes ++ more)) ≡ empty_lines (reach bytes)
 unfolding head_length
 lines_same_in_window bytes more n is =
-    let w = window-append bytes more in
-    ap empty_lines w.1 ∙ empty_lines-append (window bytes) w.0 n is
+    let w = reach-append bytes more in
+    ap empty_lines w.1 ∙ empty_lines-append (reach bytes) w.0 n is
 
 pub head_length-append : (bytes more : List ℕ) (n : ℕ) → head_length bytes ≡ Some n → head_length (bytes ++ more) ≡ Some n
 unfolding head_length
 head_length-append bytes more n is =
-    let w = window-append bytes more in
+    let w = reach-append bytes more in
     let lines = lines_same_in_window bytes more n is in
-    ap (λ (k : ℕ). head_end (drop k (window (bytes ++ more)))) lines
-    ∙ ap (λ (s : List ℕ). head_end (drop (empty_lines (window bytes)) s)) w.1
-    ∙ ap head_end (drop-append-le (empty_lines (window bytes)) (window bytes) w.0 (empty_lines-le-length (window bytes)))
-    ∙ head_end-append (drop (empty_lines (window bytes)) (window bytes)) w.0 n is
+    ap (λ (k : ℕ). head_end (drop k (reach (bytes ++ more)))) lines
+    ∙ ap (λ (s : List ℕ). head_end (drop (empty_lines (reach bytes)) s)) w.1
+    ∙ ap head_end (drop-append-le (empty_lines (reach bytes)) (reach bytes) w.0 (empty_lines-le-length (reach bytes)))
+    ∙ head_end-append (drop (empty_lines (reach bytes)) (reach bytes)) w.0 n is
 
--- a full window shows all that decides where the head ends
+-- a full reach shows all that decides where the head ends
 pub head_length-append_full : (bytes more : List ℕ) → 8192 ≤ length bytes → head_length (bytes ++ more) ≡ head_length bytes
 unfolding head_length
 head_length-append_full bytes more full =
@@ -150,11 +150,11 @@ unfolding head_bytes
 head_bytes-append bytes more n is =
     let within = head_length-within bytes n is in
     let lines = lines_same_in_window bytes more n is in
-    let passed : empty_lines (window bytes) ≤ length bytes = omega (arith, within.1) in
-    let there : n ≤ length (drop (empty_lines (window bytes)) bytes) = omega (arith, within.1, length-drop (empty_lines (window bytes)) bytes) in
+    let passed : empty_lines (reach bytes) ≤ length bytes = omega (arith, within.1) in
+    let there : n ≤ length (drop (empty_lines (reach bytes)) bytes) = omega (arith, within.1, length-drop (empty_lines (reach bytes)) bytes) in
     ap (λ (k : ℕ). take n (drop k (bytes ++ more))) lines
-    ∙ ap (take n) (drop-append-le (empty_lines (window bytes)) bytes more passed)
-    ∙ take-append-le n (drop (empty_lines (window bytes)) bytes) more there
+    ∙ ap (take n) (drop-append-le (empty_lines (reach bytes)) bytes more passed)
+    ∙ take-append-le n (drop (empty_lines (reach bytes)) bytes) more there
 
 pub after_head-append : (bytes more : List ℕ) (n : ℕ) → head_length bytes ≡ Some n
     → after_head (bytes ++ more) n ≡ after_head bytes n ++ more
@@ -163,7 +163,7 @@ after_head-append bytes more n is =
     let within = head_length-within bytes n is in
     let lines = lines_same_in_window bytes more n is in
     ap (λ (k : ℕ). drop (k + n) (bytes ++ more)) lines
-    ∙ drop-append-le (empty_lines (window bytes) + n) bytes more within.1
+    ∙ drop-append-le (empty_lines (reach bytes) + n) bytes more within.1
 
 pub BeginsWith-append : (bytes more : List ℕ) (head : RequestHead) (tail : List ℕ)
     → BeginsWith bytes head tail → BeginsWith (bytes ++ more) head (tail ++ more)

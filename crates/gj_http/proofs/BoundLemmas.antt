@@ -5,7 +5,7 @@ use Rattle.std.specs.Str.Parse.{digits_value}
 use Rattle.std.proofs.lemmas.Bool.{leb-true}
 use Rattle.httparse.specs.Grammar.{RequestHead}
 use Rattle.gj_http.specs.Heads.{is_number, values, one_length, lines_of, body_length}
-use Rattle.gj_http.specs.Cut.{empty_line, empty_lines, close_of_head, head_end, head_length, after_head, window, NeedsMore}
+use Rattle.gj_http.specs.Cut.{empty_line, empty_lines, close_of_head, head_end, head_length, after_head, reach, NeedsMore}
 use Rattle.gj_http.specs.declared.message.Refused.TheVariants.{Coded, Length, BodyLong}
 use Rattle.gj_http.proofs.FrontLemmas.{empty_line-le-length, empty_lines-le-length}
 
@@ -33,12 +33,12 @@ head_end-within (b ∷ bytes) n is =
     end_within (eqb (close_of_head (b ∷ bytes)) 0) (head_end bytes) (close_of_head (b ∷ bytes)) (length bytes) n
     (head_end-within bytes) (close_of_head-le-length (b ∷ bytes)) is
 
--- the head ends in the window
+-- the head ends in the reach
 pub head_length-within : (bytes : List ℕ) (n : ℕ) → head_length bytes ≡ Some n
-    → (empty_lines (window bytes) + n ≤ 8192) × (empty_lines (window bytes) + n ≤ length bytes)
+    → (empty_lines (reach bytes) + n ≤ 8192) × (empty_lines (reach bytes) + n ≤ length bytes)
 unfolding head_length
 head_length-within bytes n is =
-    let seen = window bytes in
+    let seen = reach bytes in
     let inside = head_end-within (drop (empty_lines seen) seen) n is in
     let left = length-drop (empty_lines seen) seen in
     let passed = empty_lines-le-length seen in
@@ -74,5 +74,5 @@ unfolding after_head
 NeedsMore-length bytes (inl lacks) = omega (arith, lacks.short)
 NeedsMore-length bytes (inr lacks) =
     let within = head_length-within bytes lacks.begins.size lacks.begins.ends in
-    let tail = ap length lacks.begins.follows ∙ length-drop (empty_lines (window bytes) + lacks.begins.size) bytes in
+    let tail = ap length lacks.begins.follows ∙ length-drop (empty_lines (reach bytes) + lacks.begins.size) bytes in
     omega (arith, within.0, tail, lacks.short, body_length-le lacks.head lacks.count lacks.stated)

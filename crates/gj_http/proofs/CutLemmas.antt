@@ -5,7 +5,7 @@ use Rattle.std.specs.List.{concat}
 use Rattle.gj_http.specs.Request.{Request}
 use Rattle.gj_http.specs.Heads.{IsHead, body_length, request_of}
 use Rattle.gj_http.specs.Cut.{head_length, head_bytes, IsMessage, IsRefused, NeedsMore, Cuts}
-use Rattle.gj_http.specs.Calls.{Call, Fed, Took, Wanted, Turned, fed, taken, Runs, Feeds, Leaves}
+use Rattle.gj_http.specs.Calls.{Call, Fed, Took, Wanted, Turned, fed, taken, Runs, Feeds, InFront}
 use Rattle.gj_http.specs.declared.message.Refused.{Refused}
 use Rattle.gj_http.proofs.BeginLemmas.{BeginsWith-unique, IsMessage-append, IsRefused-append, some_same}
 
@@ -154,20 +154,35 @@ fed_as_cut (piece ∷ pieces) held messages why rest feeds =
     subst (λ (m : List Request). Cuts (held ++ (piece ++ concat pieces)) m why rest) (sym feeds.6)
     (cut_goes_on first later held (piece ++ concat pieces) feeds.1 why left rest feeds.4 joined)
 
-pub Leaves-take : (messages : List Request) (bytes held : List ℕ) (request : Request) (rest : List ℕ)
-    → Leaves bytes messages held → IsMessage held request rest → Leaves bytes (messages ++ request ∷ []) rest
-Leaves-take [] bytes held request rest leaves is = (rest, (subst (λ (b : List ℕ). IsMessage b request rest) leaves is, refl))
-Leaves-take (first ∷ messages) bytes held request rest leaves is =
-    (leaves.0, (leaves.1.0, Leaves-take messages leaves.0 held request rest leaves.1.1 is))
+pub InFront-take : (messages : List Request) (bytes held : List ℕ) (request : Request) (rest : List ℕ)
+    → InFront bytes messages held → IsMessage held request rest → InFront bytes (messages ++ request ∷ []) rest
+InFront-take [] bytes held request rest leaves is = (rest, (subst (λ (b : List ℕ). IsMessage b request rest) leaves is, refl))
+InFront-take (first ∷ messages) bytes held request rest leaves is =
+    (leaves.0, (leaves.1.0, InFront-take messages leaves.0 held request rest leaves.1.1 is))
 
-pub Leaves-feed : (messages : List Request) (bytes held piece : List ℕ)
-    → Leaves bytes messages held → Leaves (bytes ++ piece) messages (held ++ piece)
-Leaves-feed [] bytes held piece leaves = ap (λ (b : List ℕ). b ++ piece) leaves
-Leaves-feed (first ∷ messages) bytes held piece leaves =
-    (leaves.0 ++ piece, (IsMessage-append bytes piece first leaves.0 leaves.1.0, Leaves-feed messages leaves.0 held piece leaves.1.1))
+pub InFront-feed : (messages : List Request) (bytes held piece : List ℕ)
+    → InFront bytes messages held → InFront (bytes ++ piece) messages (held ++ piece)
+InFront-feed [] bytes held piece leaves = ap (λ (b : List ℕ). b ++ piece) leaves
+InFront-feed (first ∷ messages) bytes held piece leaves =
+    (leaves.0 ++ piece, (IsMessage-append bytes piece first leaves.0 leaves.1.0, InFront-feed messages leaves.0 held piece leaves.1.1))
 
-pub Leaves-cut : (messages : List Request) (bytes held : List ℕ) (later : List Request) (why : Option Refused) (rest : List ℕ)
-    → Leaves bytes messages held → Cuts held later why rest → Cuts bytes (messages ++ later) why rest
-Leaves-cut [] bytes held later why rest leaves cut = subst (λ (b : List ℕ). Cuts b later why rest) leaves cut
-Leaves-cut (first ∷ messages) bytes held later why rest leaves cut =
-    (leaves.0, (leaves.1.0, Leaves-cut messages leaves.0 held later why rest leaves.1.1 cut))
+pub InFront-cut : (messages : List Request) (bytes held : List ℕ) (later : List Request) (why : Option Refused) (rest : List ℕ)
+    → InFront bytes messages held → Cuts held later why rest → Cuts bytes (messages ++ later) why rest
+InFront-cut [] bytes held later why rest leaves cut = subst (λ (b : List ℕ). Cuts b later why rest) leaves cut
+InFront-cut (first ∷ messages) bytes held later why rest leaves cut =
+    (leaves.0, (leaves.1.0, InFront-cut messages leaves.0 held later why rest leaves.1.1 cut))
+
+pub InFront-join : (messages later : List Request) (bytes held rest : List ℕ)
+    → InFront bytes messages held → InFront held later rest → InFront bytes (messages ++ later) rest
+InFront-join [] later bytes held rest x y = subst (λ (b : List ℕ). InFront b later rest) x y
+InFront-join (first ∷ messages) later bytes held rest x y = (x.0, (x.1.0, InFront-join messages later x.0 held rest x.1.1 y))
+
+pub InFront-begins : (messages all : List Request) (bytes held : List ℕ) (why : Option Refused) (rest : List ℕ)
+    → InFront bytes messages held → Cuts bytes all why rest → (later : List Request) × (all ≡ messages ++ later)
+InFront-begins [] all bytes held why rest x y = (all, refl)
+InFront-begins (m ∷ messages) [] bytes held None rest x y = absurd (no_partial_message bytes m x.0 x.1.0 y.0)
+InFront-begins (m ∷ messages) [] bytes held (Some w) rest x y = absurd (no_refused_message bytes m x.0 w x.1.0 y.0)
+InFront-begins (m ∷ messages) (n ∷ all) bytes held why rest x y =
+    let same = IsMessage-unique bytes n m y.0 x.0 y.1.0 x.1.0 in
+    let later = InFront-begins messages all x.0 held why rest x.1.1 (subst (λ (b : List ℕ). Cuts b all why rest) same.1 y.1.1) in
+    (later.0, λ i. same.0 i ∷ later.1 i)

@@ -3,7 +3,7 @@ use Rattle.std.proofs.Common.{◌≡◌, ℕ, ◌+◌, ◌<◌, ◌≤◌, Bool,
 use Rattle.std.proofs.lemmas.Bool.{ne_eqb}
 use Rattle.std.specs.Option.{option_map}
 use Rattle.std.proofs.lemmas.List.{drop_more, drop-drop}
-use Rattle.gj_http.specs.Cut.{empty_line, empty_lines, close_of_head, head_end, head_length, window}
+use Rattle.gj_http.specs.Cut.{empty_line, empty_lines, close_of_head, head_end, head_length, reach}
 
 by_tests : (F : ℕ → ℕ) (t u : Bool) → 0 < (if t then 1 else (if u then 2 else 0))
     → (if t then 1 + F 1 else (if u then 2 + F 2 else 0))
@@ -102,8 +102,8 @@ empty_lines-le-length (a ∷ b ∷ bytes) =
     two false true x y = omega arith
     two false false x y = omega arith
 
--- the head's length, from the search in the window
-pub head_length_is : (bytes seen : List ℕ) (start : ℕ) (found : Option ℕ) → seen ≡ window bytes → start ≡ empty_lines seen
+-- the head's length, from the search in the reach
+pub head_length_is : (bytes seen : List ℕ) (start : ℕ) (found : Option ℕ) → seen ≡ reach bytes → start ≡ empty_lines seen
     → head_end (drop start seen) ≡ found → head_length bytes ≡ found
 unfolding head_length
 head_length_is bytes seen start found same is ends =

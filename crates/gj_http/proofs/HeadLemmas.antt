@@ -13,7 +13,7 @@ use Rattle.httparse.specs.Spans.{IsRequestAt, IsWithin, header_bytes, name_and_v
 use Rattle.httparse.specs.declared.spans.HeaderSpan.{HeaderSpan}
 use Rattle.httparse.specs.declared.spans.RequestSpans.{RequestSpans}
 use Rattle.gj_http.specs.Heads.{IsHead, is_number, stated_length, length_by, body_length, closes, method_of, path_of}
-use Rattle.gj_http.specs.Found.{Shows, IsBad}
+use Rattle.gj_http.specs.Fronts.{Shows, IsBad}
 use Rattle.gj_http.specs.declared.head.Asked.{Asked}
 use Rattle.gj_http.specs.declared.message.Refused.{Refused}
 use Rattle.gj_http.specs.declared.message.Refused.TheVariants.{BodyLong, Length}

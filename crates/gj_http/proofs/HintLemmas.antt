@@ -5,11 +5,11 @@ use Rattle.std.proofs.lemmas.Bool.{cases_lt, cond-false}
 use Rattle.std.proofs.lemmas.List.{append-nil, drop-append-le, drop-drop, take_all}
 use Rattle.httparse.specs.Grammar.{RequestHead}
 use Rattle.gj_http.specs.Heads.{body_length}
-use Rattle.gj_http.specs.Cut.{empty_line, empty_lines, close_of_head, head_end, window, head_length, BeginsWith, NeedsMore}
+use Rattle.gj_http.specs.Cut.{empty_line, empty_lines, close_of_head, head_end, reach, head_length, BeginsWith, NeedsMore}
 use Rattle.gj_http.specs.Hints.{IsHint, Knows}
 use Rattle.gj_http.specs.declared.front.Hint.{Hint}
 use Rattle.gj_http.proofs.FrontLemmas.{empty_lines-le-length, head_end_found, head_end_more}
-use Rattle.gj_http.proofs.BeginLemmas.{window-append, BeginsWith-append, close_same}
+use Rattle.gj_http.proofs.BeginLemmas.{reach-append, BeginsWith-append, close_same}
 
 option_map_zero : (o : Option ℕ) → option_map (λ n. 0 + n) o ≡ o
 option_map_zero None = refl
@@ -116,21 +116,21 @@ pub no_hint : (bytes : List ℕ) (hint : Hint) → hint.lines ≡ 0 → hint.pas
 no_hint bytes hint lines passed want = λ more. (
   record {
     within = omega (arith, lines, passed);
-    lines = ap (λ (k : ℕ). k + empty_lines (drop k (window (bytes ++ more)))) lines ∙ omega arith;
+    lines = ap (λ (k : ℕ). k + empty_lines (drop k (reach (bytes ++ more)))) lines ∙ omega arith;
     settled = λ some. absurd (omega (arith, some, passed));
     passed =
-        ap (λ (k : ℕ). option_map (λ n. k + n) (head_end (drop k (drop (empty_lines (window (bytes ++ more))) (window (bytes ++ more)))))) passed
-        ∙ option_map_zero (head_end (drop (empty_lines (window (bytes ++ more))) (window (bytes ++ more))));
+        ap (λ (k : ℕ). option_map (λ n. k + n) (head_end (drop k (drop (empty_lines (reach (bytes ++ more))) (reach (bytes ++ more)))))) passed
+        ∙ option_map_zero (head_end (drop (empty_lines (reach (bytes ++ more))) (reach (bytes ++ more))));
   },
   λ short. absurd (omega (arith, short, want)),
 )
 
 pub Knows-append : (bytes piece : List ℕ) (hint : Hint) → Knows bytes hint → Knows (bytes ++ piece) hint
 Knows-append bytes piece hint knows =
-    λ more. subst (λ (b : List ℕ). IsHint (window b) hint × (length b < hint.want → NeedsMore b)) (sym (append_assoc bytes piece more)) (knows (piece ++ more))
+    λ more. subst (λ (b : List ℕ). IsHint (reach b) hint × (length b < hint.want → NeedsMore b)) (sym (append_assoc bytes piece more)) (knows (piece ++ more))
 
-pub hint_here : (bytes : List ℕ) (hint : Hint) → Knows bytes hint → IsHint (window bytes) hint
-hint_here bytes hint knows = subst (λ (b : List ℕ). IsHint (window b) hint) (append-nil bytes) (knows []).0
+pub hint_here : (bytes : List ℕ) (hint : Hint) → Knows bytes hint → IsHint (reach bytes) hint
+hint_here bytes hint knows = subst (λ (b : List ℕ). IsHint (reach b) hint) (append-nil bytes) (knows []).0
 
 pub wants_here : (bytes : List ℕ) (hint : Hint) → Knows bytes hint → length bytes < hint.want → NeedsMore bytes
 wants_here bytes hint knows short =
@@ -141,8 +141,8 @@ pub body_hint : (bytes : List ℕ) (hint next : Hint) (head : RequestHead) (n : 
     → next.lines ≡ hint.lines → next.passed ≡ hint.passed
     → BeginsWith bytes head (drop n bytes) → body_length head ≡ Ok (next.want - n) → n ≤ length bytes → Knows bytes next
 body_hint bytes hint next head n knows lines passed begins stated within = λ more. (
-  subst (λ (h : Hint). IsHint (window (bytes ++ more)) h) (λ i. record { lines = sym lines i; passed = sym passed i; want = next.want })
-      (keep hint next.want (window (bytes ++ more)) (knows more).0),
+  subst (λ (h : Hint). IsHint (reach (bytes ++ more)) h) (λ i. record { lines = sym lines i; passed = sym passed i; want = next.want })
+      (keep hint next.want (reach (bytes ++ more)) (knows more).0),
   λ short. inr (record {
     head = head;
     tail = drop n bytes ++ more;
@@ -157,14 +157,14 @@ body_hint bytes hint next head n knows lines passed begins stated within = λ mo
     keep hint want seen is = record { within = is.within; lines = is.lines; settled = is.settled; passed = is.passed }
 
 -- where no head ends in all the bytes
-pub search_hint : (bytes : List ℕ) (next : Hint) → length bytes < 8192 → next.lines ≡ empty_lines (window bytes)
+pub search_hint : (bytes : List ℕ) (next : Hint) → length bytes < 8192 → next.lines ≡ empty_lines (reach bytes)
     → next.passed ≡ length bytes - next.lines - 2 → next.want ≡ 0
     → head_length bytes ≡ None → Knows bytes next
 unfolding head_length
 search_hint bytes next short lines passed want none = λ more.
-    let c = (window-append bytes more).0 in
-    let same : window bytes ≡ bytes = take_all 8192 bytes (omega (arith, short)) in
-    let all : window (bytes ++ more) ≡ bytes ++ c = (window-append bytes more).1 ∙ ap (λ (b : List ℕ). b ++ c) same in
+    let c = (reach-append bytes more).0 in
+    let same : reach bytes ≡ bytes = take_all 8192 bytes (omega (arith, short)) in
+    let all : reach (bytes ++ more) ≡ bytes ++ c = (reach-append bytes more).1 ∙ ap (λ (b : List ℕ). b ++ c) same in
     let start : next.lines ≡ empty_lines bytes = lines ∙ ap empty_lines same in
     let none' : head_end (drop (empty_lines bytes) bytes) ≡ None =
     ap (λ (b : List ℕ). head_end (drop (empty_lines b) b)) (sym same) ∙ none in (
@@ -204,7 +204,7 @@ search_hint bytes next short lines passed want none = λ more.
               ];
         }
 
-pub hint_seen : (bytes seen : List ℕ) (hint : Hint) → seen ≡ window bytes → Knows bytes hint → IsHint seen hint
+pub hint_seen : (bytes seen : List ℕ) (hint : Hint) → seen ≡ reach bytes → Knows bytes hint → IsHint seen hint
 hint_seen bytes seen hint same knows = subst (λ (b : List ℕ). IsHint b hint) (sym same) (hint_here bytes hint knows)
 
 pub passed_seen : (seen rest : List ℕ) (start : ℕ) (hint : Hint) → IsHint seen hint → start ≡ empty_lines seen → rest ≡ drop start seen

@@ -3,11 +3,12 @@ pub mod BoundLemmas
 pub mod CutLemmas
 pub mod DecideLemmas
 pub mod FixedLemmas
-pub mod FoundLemmas
 pub mod FrontLemmas
 pub mod HeadLemmas
 pub mod HintLemmas
 pub mod ResponseLemmas
 pub mod RowLemmas
+pub mod ShorterLemmas
+pub mod SpanLemmas
 pub mod TableLemmas
 pub mod TotalLemmas

@@ -5,7 +5,7 @@ use Rattle.std.proofs.lemmas.Bool.{cases_lt, eqb-false}
 use Rattle.httparse.specs.Grammar.{RequestHead}
 use Rattle.gj_http.specs.Request.{Request}
 use Rattle.gj_http.specs.Heads.{IsHead, body_length, request_of}
-use Rattle.gj_http.specs.Cut.{empty_lines, window, close_of_head, head_end, head_length, head_bytes, after_head, IsMessage, IsRefused, NeedsMore, Cuts}
+use Rattle.gj_http.specs.Cut.{empty_lines, reach, close_of_head, head_end, head_length, head_bytes, after_head, IsMessage, IsRefused, NeedsMore, Cuts}
 use Rattle.gj_http.specs.declared.message.Refused.{Refused}
 use Rattle.gj_http.specs.declared.message.Refused.TheVariants.{Head, HeadLong}
 use Rattle.gj_http.proofs.DecideLemmas.{Settled, head_or_none}
@@ -91,7 +91,7 @@ head_end-above (b ∷ bytes) n is = end_above (eqb (close_of_head (b ∷ bytes))
 
 head_length-above : (bytes : List ℕ) (n : ℕ) → head_length bytes ≡ Some n → 0 < n
 unfolding head_length
-head_length-above bytes n is = head_end-above (drop (empty_lines (window bytes)) (window bytes)) n is
+head_length-above bytes n is = head_end-above (drop (empty_lines (reach bytes)) (reach bytes)) n is
 
 -- a message has bytes
 pub IsMessage-shorter : (bytes : List ℕ) (request : Request) (rest : List ℕ) → IsMessage bytes request rest → length rest < length bytes
@@ -100,7 +100,7 @@ IsMessage-shorter bytes request rest is =
     let begins = is.begins in
     let within = head_length-within bytes begins.size begins.ends in
     let some = head_length-above bytes begins.size begins.ends in
-    let tail = ap length begins.follows ∙ length-drop (empty_lines (window bytes) + begins.size) bytes in
+    let tail = ap length begins.follows ∙ length-drop (empty_lines (reach bytes) + begins.size) bytes in
     let left = ap length is.rest_is ∙ length-drop is.count is.tail in
     omega (arith, within.1, some, tail, left)
 

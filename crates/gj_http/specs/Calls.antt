@@ -43,6 +43,6 @@ Feeds held (piece ∷ pieces) messages refusal rest =
     × Cuts held first seen left × Feeds (left ++ piece) pieces later refusal rest × (messages ≡ first ++ later)
 
 -- the messages stand at the front in order, and after them the held bytes: what a loop over a framer keeps
-abbrev pub Leaves : List ℕ → List Request → List ℕ → Type 0
-Leaves bytes [] held = held ≡ bytes
-Leaves bytes (first ∷ messages) held = (rest : List ℕ) × (IsMessage bytes first rest × Leaves rest messages held)
+abbrev pub InFront : List ℕ → List Request → List ℕ → Type 0
+InFront bytes [] held = held ≡ bytes
+InFront bytes (first ∷ messages) held = (rest : List ℕ) × (IsMessage bytes first rest × InFront rest messages held)

@@ -31,19 +31,19 @@ head_end (b ∷ bytes) =
     if close_of_head (b ∷ bytes) == 0 then option_map (λ n. 1 + n) (head_end bytes) else Some (close_of_head (b ∷ bytes))
 
 -- the bytes among which a head has to end, empty lines before it counted
-abbrev pub window : List ℕ → List ℕ
-window bytes = take 8192 bytes
+abbrev pub reach : List ℕ → List ℕ
+reach bytes = take 8192 bytes
 
--- how many bytes the head has, where it ends within the window
+-- how many bytes the head has, where it ends within the reach
 unfoldable pub head_length : List ℕ → Option ℕ
-head_length bytes = head_end (drop (empty_lines (window bytes)) (window bytes))
+head_length bytes = head_end (drop (empty_lines (reach bytes)) (reach bytes))
 
 -- after the empty lines, what the head of that many bytes has, and what follows it
 unfoldable pub head_bytes : List ℕ → ℕ → List ℕ
-head_bytes bytes n = take n (drop (empty_lines (window bytes)) bytes)
+head_bytes bytes n = take n (drop (empty_lines (reach bytes)) bytes)
 
 unfoldable pub after_head : List ℕ → ℕ → List ℕ
-after_head bytes n = drop (empty_lines (window bytes) + n) bytes
+after_head bytes n = drop (empty_lines (reach bytes) + n) bytes
 
 -- the bytes begin with the whole head, and tail follows it
 pub record BeginsWith (bytes : List ℕ) (head : RequestHead) (tail : List ℕ) : Type 0 where
@@ -63,7 +63,7 @@ pub record IsMessage (bytes : List ℕ) (request : Request) (rest : List ℕ) : 
   pub request_is : request ≡ request_of head (take count tail)
   pub rest_is : rest ≡ drop count tail
 
--- the window is full and no head ends in it
+-- the reach is full and no head ends in it
 pub record IsHeadLong (bytes : List ℕ) (why : Refused) : Type 0 where
   pub why_is : why ≡ HeadLong
   pub open_ended : head_length bytes ≡ None
@@ -87,7 +87,7 @@ pub record StatesNone (bytes : List ℕ) (why : Refused) : Type 0 where
 abbrev pub IsRefused : List ℕ → Refused → Type 0
 IsRefused bytes why = IsHeadLong bytes why ⊎ (IsNoHead bytes why ⊎ StatesNone bytes why)
 
--- no head ends in the bytes, and the window is not full
+-- no head ends in the bytes, and the reach is not full
 pub record LacksHead (bytes : List ℕ) : Type 0 where
   pub open_ended : head_length bytes ≡ None
   pub short : length bytes < 8192

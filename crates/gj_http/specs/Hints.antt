@@ -1,9 +1,9 @@
 -- What is known of the bytes at the front, whatever follows them.
 use Rattle.std.specs.Prelude.{◌≡◌, ℕ, ◌+◌, ◌<◌, ◌≤◌, List, ◌++◌, length, drop, option_map}
-use Rattle.gj_http.specs.Cut.{empty_lines, head_end, window, NeedsMore}
+use Rattle.gj_http.specs.Cut.{empty_lines, head_end, reach, NeedsMore}
 use Rattle.gj_http.specs.declared.front.Hint.{Hint}
 
--- in the window, so many bytes are of empty lines, and no end of a head begins in so many after all such lines
+-- in the reach, so many bytes are of empty lines, and no end of a head begins in so many after all such lines
 pub record IsHint (seen : List ℕ) (hint : Hint) : Type 0 where
   pub within : hint.lines + hint.passed ≤ length seen
   pub lines : hint.lines + empty_lines (drop hint.lines seen) ≡ empty_lines seen
@@ -15,4 +15,4 @@ pub record IsHint (seen : List ℕ) (hint : Hint) : Type 0 where
 abbrev pub Knows : List ℕ → Hint → Type 0
 Knows bytes hint =
     (more : List ℕ)
-    → IsHint (window (bytes ++ more)) hint × (length (bytes ++ more) < hint.want → NeedsMore (bytes ++ more))
+    → IsHint (reach (bytes ++ more)) hint × (length (bytes ++ more) < hint.want → NeedsMore (bytes ++ more))

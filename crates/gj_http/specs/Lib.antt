@@ -1,6 +1,6 @@
 pub mod Calls
 pub mod Cut
-pub mod Found
+pub mod Fronts
 pub mod Heads
 pub mod Held
 pub mod Hints

@@ -4,7 +4,7 @@ ghost use Rattle.std.specs.Prelude.{◌≡◌, ℕ, ◌+◌, ◌≤◌, ◌++◌
 ghost use Rattle.std.specs.Str.{IsUtf8};
 ghost use Rattle.gj_http.specs.Cut.{IsBetween};
 
-use crate::front::{Found, Front, Hint, NO_HINT, empty_lines_at, look};
+use crate::front::{Front, Hint, MessageSpans, NO_HINT, empty_lines_at, look};
 use crate::message::{Message, Step};
 use gj_base::Memory;
 use std::alloc::Global;
@@ -47,8 +47,8 @@ impl Model for Framer {
 impl Framer {
     ghost use Rattle.std.specs.Borrow.{sem};
     ghost use Rattle.gj_http.specs.Held.{Held};
-    ghost use Rattle.gj_http.specs.Lent.{EndsWith, Steps, Says, Takes};
-    ghost use Rattle.gj_http.specs.Found.{IsFront, IsFound, found_request};
+    ghost use Rattle.gj_http.specs.Lent.{EndsWith, HoldsAfter, Says, Takes};
+    ghost use Rattle.gj_http.specs.Fronts.{IsFront, IsWhole, spans_request};
     ghost use Rattle.gj_http.specs.Request.{request};
 
     /// A framer that holds nothing. It takes room for 1064960 bytes, which is all the memory that it takes.
@@ -86,7 +86,7 @@ impl Framer {
 
     /// Takes the message at the front, and lends it until the next call. After `NeedMore` there is room for 8192 bytes.
     pub fn take_next(&mut self) -> Step<'_>
-        ensures* lends { sem 𝓛 (EndsWith self.entry (Steps self.old result)) }
+        ensures* lends { sem 𝓛 (EndsWith self.entry (HoldsAfter self.old result)) }
         ensures says { Says self.old.bytes result }
     {
         match self.front() {
@@ -108,10 +108,10 @@ impl Framer {
     }
 
     /// Takes the message that was found, and lends it.
-    fn lend(&mut self, found: Found) -> Message<'_>
-        requires { IsFound self.old.bytes found }
+    fn lend(&mut self, found: MessageSpans) -> Message<'_>
+        requires { IsWhole self.old.bytes found }
         ensures* lends { sem 𝓛 (EndsWith self.entry (Takes self.old found)) }
-        ensures request { request result ≡ found_request self.old.bytes found }
+        ensures request { request result ≡ spans_request self.old.bytes found }
     {
         let from = self.start;
         self.start += found.body.end;

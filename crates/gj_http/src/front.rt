@@ -1,8 +1,8 @@
 // Where the head at the front of the bytes begins and ends.
 
 ghost use Rattle.std.specs.Prelude.{◌≡◌, ℕ, ◌+◌, ◌^◌, ◌<◌, ◌≤◌, Some, length, drop, IfSome, option_map};
-ghost use Rattle.gj_http.specs.Cut.{empty_line, empty_lines, close_of_head, head_end, head_length, window};
-ghost use Rattle.gj_http.specs.Found.{IsFront};
+ghost use Rattle.gj_http.specs.Cut.{empty_line, empty_lines, close_of_head, head_end, head_length, reach};
+ghost use Rattle.gj_http.specs.Fronts.{IsFront};
 ghost use Rattle.gj_http.specs.Hints.{IsHint, Knows};
 
 use crate::head::{Asked, read_head};
@@ -91,7 +91,7 @@ pub const NO_HINT: Hint = Hint {
 
 /// A whole message, by where it is.
 #[derive(Clone, Copy)]
-pub struct Found {
+pub struct MessageSpans {
     pub method: Method,
     pub path: Span,
     /// The message ends with it.
@@ -102,7 +102,7 @@ pub struct Found {
 /// What stands at the front of the bytes.
 #[derive(Clone, Copy)]
 pub enum Front {
-    Whole(Found),
+    Whole(MessageSpans),
     /// With what is known then.
     Partial(Hint),
     Bad(Refused),
@@ -116,9 +116,9 @@ pub fn look(bytes: &[u8], hint: Hint) -> Front
     if bytes.len() < hint.want {
         return Front::Partial(hint);
     }
-    let window = &bytes[..MAX_HEAD.min(bytes.len())];
-    let start = lines_in(window, hint);
-    match head_end_in(&window[start..], hint.passed) {
+    let reach = &bytes[..MAX_HEAD.min(bytes.len())];
+    let start = lines_in(reach, hint);
+    match head_end_in(&reach[start..], hint.passed) {
         Some(size) => look_past(bytes, hint, start, size),
         None => {
             if bytes.len() < MAX_HEAD {
@@ -134,7 +134,7 @@ pub fn look(bytes: &[u8], hint: Hint) -> Front
     }
 }
 
-/// The length of the empty lines at the front of the window.
+/// The length of the empty lines at the front of the reach.
 fn lines_in(seen: &[u8], hint: Hint) -> usize
     requires { IsHint seen.now hint }
     ensures exact { result ≡ empty_lines seen.now }
@@ -150,7 +150,7 @@ fn lines_in(seen: &[u8], hint: Hint) -> usize
 /// What stands at the front of the bytes, whose head begins at `start` and has `size` bytes.
 fn look_past(bytes: &[u8], hint: Hint, start: usize, size: usize) -> Front
     requires known { Knows bytes.now hint }
-    requires start { start ≡ empty_lines (window bytes.now) }
+    requires start { start ≡ empty_lines (reach bytes.now) }
     requires size { head_length bytes.now ≡ Some size }
     requires within { start + size ≤ length bytes.now }
     ensures { IsFront bytes.now result }
@@ -167,14 +167,14 @@ fn look_past(bytes: &[u8], hint: Hint, start: usize, size: usize) -> Front
                     want: end,
                 })
             } else {
-                Front::Whole(found_past(asked, start, after, end))
+                Front::Whole(spans_past(asked, start, after, end))
             }
         }
     }
 }
 
 /// Where the parts of a message are, whose head begins at `start` and whose body is there from `after` to `end`.
-fn found_past(asked: Asked, start: usize, after: usize, end: usize) -> Found
+fn spans_past(asked: Asked, start: usize, after: usize, end: usize) -> MessageSpans
     requires path { asked.path.start ≤ asked.path.end }
     requires fits { start + asked.path.end < 2 ^ 64 }
     ensures method { result.method ≡ asked.method }
@@ -184,7 +184,7 @@ fn found_past(asked: Asked, start: usize, after: usize, end: usize) -> Found
     ensures body_end { result.body.end ≡ end }
     ensures close { result.close ≡ asked.close }
 {
-    Found {
+    MessageSpans {
         method: asked.method,
         path: Span {
             start: start + asked.path.start,

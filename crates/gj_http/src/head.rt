@@ -5,7 +5,7 @@ ghost use Rattle.std.specs.Str.{IsUtf8};
 ghost use Rattle.httparse.specs.Grammar.{RequestHead, ReadsRequest, trim_ows};
 ghost use Rattle.httparse.specs.Spans.{IsRequestWithin, IsRequestAt, IsHeaderWithin, IsWithin, header_bytes, span_bytes};
 ghost use Rattle.gj_http.specs.Heads.{IsHead, is_word, is_number, values, stated_length, length_by, closes, method_of, path_of};
-ghost use Rattle.gj_http.specs.Found.{Shows, IsBad};
+ghost use Rattle.gj_http.specs.Fronts.{Shows, IsBad};
 
 use crate::message::{Method, Refused};
 use crate::options::{has_option_in, is_named};

@@ -1,13 +1,14 @@
 // The laws of cutting.
 
-ghost use Rattle.std.specs.Prelude.{◌≡◌, ◌⊎◌, ℕ, List, [], ◌∷◌, ◌++◌, Option, Some};
+ghost use Rattle.std.specs.Prelude.{◌≡◌, ◌⊎◌, ℕ, ◌<◌, List, [], ◌∷◌, ◌++◌, length, Option, Some};
 ghost use Rattle.std.specs.List.{concat};
 ghost use Rattle.gj_http.specs.Request.{Request};
 ghost use Rattle.gj_http.specs.Cut.{IsMessage, IsRefused, NeedsMore, Cuts};
-ghost use Rattle.gj_http.specs.Calls.{Call, Feeds, Leaves, Runs, fed, taken};
+ghost use Rattle.gj_http.specs.Calls.{Call, Feeds, InFront, Runs, fed, taken};
 ghost use Rattle.gj_http.specs.declared.message.Refused.{Refused};
 
-/// At the front stands one message with one rest, or the bytes are refused for one cause, or they need more.
+/// At the front stands one message with one rest, or the bytes are refused for one cause, or they need more. What follows
+/// a message is shorter, and no bytes need more.
 pub fn one_front()
     ensures some { (bytes : List ℕ) → ((request : Request) × (rest : List ℕ) × IsMessage bytes request rest)
         ⊎ (((why : Refused) × IsRefused bytes why) ⊎ NeedsMore bytes) }
@@ -17,6 +18,8 @@ pub fn one_front()
     ensures no_refused_message { (bytes : List ℕ) (request : Request) (rest : List ℕ) (why : Refused) → IsMessage bytes request rest → IsRefused bytes why → ⊥ }
     ensures no_partial_message { (bytes : List ℕ) (request : Request) (rest : List ℕ) → IsMessage bytes request rest → NeedsMore bytes → ⊥ }
     ensures no_partial_refusal { (bytes : List ℕ) (why : Refused) → IsRefused bytes why → NeedsMore bytes → ⊥ }
+    ensures shorter { (bytes : List ℕ) (request : Request) (rest : List ℕ) → IsMessage bytes request rest → length rest < length bytes }
+    ensures empty { NeedsMore [] }
 {}
 
 /// What stands at the front of a beginning stands at the front of the whole.
@@ -67,10 +70,14 @@ pub fn fed_as_cut()
 /// What a loop keeps that feeds a framer and takes its messages: the messages so far, and then what the framer holds, are
 /// the bytes that were fed.
 pub fn loop_keeps()
-    ensures none { (bytes : List ℕ) → Leaves bytes [] bytes }
+    ensures none { (bytes : List ℕ) → InFront bytes [] bytes }
     ensures take { (bytes held rest : List ℕ) (messages : List Request) (request : Request)
-        → Leaves bytes messages held → IsMessage held request rest → Leaves bytes (messages ++ request ∷ []) rest }
-    ensures feed { (bytes held piece : List ℕ) (messages : List Request) → Leaves bytes messages held → Leaves (bytes ++ piece) messages (held ++ piece) }
+        → InFront bytes messages held → IsMessage held request rest → InFront bytes (messages ++ request ∷ []) rest }
+    ensures join { (bytes held rest : List ℕ) (messages later : List Request)
+        → InFront bytes messages held → InFront held later rest → InFront bytes (messages ++ later) rest }
+    ensures feed { (bytes held piece : List ℕ) (messages : List Request) → InFront bytes messages held → InFront (bytes ++ piece) messages (held ++ piece) }
     ensures cut { (bytes held rest : List ℕ) (messages later : List Request) (why : Option Refused)
-        → Leaves bytes messages held → Cuts held later why rest → Cuts bytes (messages ++ later) why rest }
+        → InFront bytes messages held → Cuts held later why rest → Cuts bytes (messages ++ later) why rest }
+    ensures begins { (bytes held rest : List ℕ) (messages all : List Request) (why : Option Refused)
+        → InFront bytes messages held → Cuts bytes all why rest → (later : List Request) × (all ≡ messages ++ later) }
 {}

@@ -1,6 +1,6 @@
 use Rattle.std.proofs.Common.{◌≡◌, ◌+◌, ◌-◌, Ok, arith, refl, sym, ap, ◌∙◌}
 use Rattle.gj_http.proofs.BoundLemmas.{head_length-within, body_length-le}
-use Rattle.gj_http.proofs.FoundLemmas.{begins_with, refused_from_bad, needs_more_from_short, found_from_whole}
+use Rattle.gj_http.proofs.SpanLemmas.{begins_with, refused_from_bad, needs_more_from_short, found_from_whole}
 use Rattle.gj_http.proofs.HintLemmas.{body_hint}
 use Rattle.gj_http.proofs.front.look_past.Goals as goal
 
@@ -32,6 +32,6 @@ returns-then-bytes-end c =
 pub returns-else-bytes-end : goal.returns-else-bytes-end
 returns-else-bytes-end c =
     let ok = c.in-Ok.ensures.ok in
-    let call = c.found_past.ensures in
+    let call = c.spans_past.ensures in
     found_from_whole c.args.bytes.now c.args.start c.args.size c.in-Ok.asked ok.0 _ c.requires.start c.requires.size c.requires.within
     ok.1 ok.2 (omega arith) call.method call.path_start call.path_end call.body_start call.body_end call.close

@@ -7,7 +7,7 @@ use Rattle.gj_http.specs.Heads.{IsHead, body_length, closes, lines_of, method_of
 use Rattle.gj_http.specs.Request.{Request}
 use Rattle.gj_http.specs.Cut.{IsMessage, IsRefused, NeedsMore}
 use Rattle.gj_http.specs.Hints.{Knows}
-use Rattle.gj_http.specs.declared.front.Found.{Found}
+use Rattle.gj_http.specs.declared.front.MessageSpans.{MessageSpans}
 use Rattle.gj_http.specs.declared.front.Front.{Front}
 use Rattle.gj_http.specs.declared.front.Front.TheVariants.{Whole, Partial, Bad}
 use Rattle.gj_http.specs.declared.head.Asked.{Asked}
@@ -30,8 +30,8 @@ IsBad bytes why =
     ⊎ ((head : RequestHead) × IsHead bytes head × (body_length head ≡ Err why))
 
 -- the request of the spans
-abbrev pub found_request : List ℕ → Found → Request
-found_request bytes found = record {
+abbrev pub spans_request : List ℕ → MessageSpans → Request
+spans_request bytes found = record {
   method = found.method;
   path = span_bytes bytes found.path;
   body = span_bytes bytes found.body;
@@ -39,14 +39,14 @@ found_request bytes found = record {
 }
 
 -- the message of the spans stands at the front
-pub record IsFound (bytes : List ℕ) (found : Found) : Type 0 where
+pub record IsWhole (bytes : List ℕ) (found : MessageSpans) : Type 0 where
   pub path : IsWithin (length bytes) found.path
   pub text : IsUtf8 (span_bytes bytes found.path)
   pub body : IsWithin (length bytes) found.body
-  pub message : IsMessage bytes (found_request bytes found) (drop found.body.end bytes)
+  pub message : IsMessage bytes (spans_request bytes found) (drop found.body.end bytes)
 
 -- the answer says what stands at the front
 abbrev pub IsFront : List ℕ → Front → Type 0
-IsFront bytes (Whole found) = IsFound bytes found
+IsFront bytes (Whole found) = IsWhole bytes found
 IsFront bytes (Partial hint) = NeedsMore bytes × Knows bytes hint
 IsFront bytes (Bad why) = IsRefused bytes why

@@ -5,20 +5,20 @@ use Rattle.std.specs.Str.{IsUtf8}
 use Rattle.httparse.specs.Grammar.{RequestHead}
 use Rattle.httparse.specs.Spans.{span_bytes}
 use Rattle.gj_http.specs.Heads.{IsHead, request_of, method_of, path_of, closes, lines_of}
-use Rattle.gj_http.specs.Cut.{empty_lines, window, head_length, head_bytes, after_head, BeginsWith, IsRefused, NeedsMore}
-use Rattle.gj_http.specs.Found.{Shows, IsBad, IsFound}
+use Rattle.gj_http.specs.Cut.{empty_lines, reach, head_length, head_bytes, after_head, BeginsWith, IsRefused, NeedsMore}
+use Rattle.gj_http.specs.Fronts.{Shows, IsBad, IsWhole}
 use Rattle.gj_http.specs.declared.head.Asked.{Asked}
-use Rattle.gj_http.specs.declared.front.Found.{Found}
+use Rattle.gj_http.specs.declared.front.MessageSpans.{MessageSpans}
 use Rattle.gj_http.specs.declared.message.Refused.{Refused}
 
-head_bytes_is : (bytes : List ℕ) (start size : ℕ) → start ≡ empty_lines (window bytes)
+head_bytes_is : (bytes : List ℕ) (start size : ℕ) → start ≡ empty_lines (reach bytes)
     → slice_range bytes start (start + size) ≡ head_bytes bytes size
 unfolding head_bytes
 head_bytes_is bytes start size is =
     let n : start + size - start ≡ size = omega arith in
     ap (λ (k : ℕ). take k (drop start bytes)) n ∙ ap (λ (k : ℕ). take size (drop k bytes)) is
 
-pub begins_with : (bytes : List ℕ) (start size : ℕ) (h : RequestHead) → start ≡ empty_lines (window bytes) → head_length bytes ≡ Some size
+pub begins_with : (bytes : List ℕ) (start size : ℕ) (h : RequestHead) → start ≡ empty_lines (reach bytes) → head_length bytes ≡ Some size
     → IsHead (slice_range bytes start (start + size)) h → BeginsWith bytes h (drop (start + size) bytes)
 unfolding after_head
 begins_with bytes start size h is ends head = record {
@@ -28,7 +28,7 @@ begins_with bytes start size h is ends head = record {
   follows = ap (λ (k : ℕ). drop (k + size) bytes) is;
 }
 
-pub refused_from_bad : (bytes : List ℕ) (start size : ℕ) (why : Refused) → start ≡ empty_lines (window bytes) → head_length bytes ≡ Some size
+pub refused_from_bad : (bytes : List ℕ) (start size : ℕ) (why : Refused) → start ≡ empty_lines (reach bytes) → head_length bytes ≡ Some size
     → IsBad (slice_range bytes start (start + size)) why → IsRefused bytes why
 refused_from_bad bytes start size why is ends (inl none) =
     inr (inl (record {
@@ -46,7 +46,7 @@ refused_from_bad bytes start size why is ends (inr some) =
     }))
 
 pub needs_more_from_short : (bytes : List ℕ) (start size : ℕ) (asked : Asked) (h : RequestHead)
-    → start ≡ empty_lines (window bytes) → head_length bytes ≡ Some size
+    → start ≡ empty_lines (reach bytes) → head_length bytes ≡ Some size
     → IsHead (slice_range bytes start (start + size)) h → Shows (slice_range bytes start (start + size)) asked h
     → length bytes - (start + size) < asked.length → NeedsMore bytes
 needs_more_from_short bytes start size asked h is ends head shown short =
@@ -74,13 +74,13 @@ span_bytes-moved bytes start size s e ordered within =
     ∙ ap (take (e - s)) (drop-drop s start bytes)
     )
 
-pub found_from_whole : (bytes : List ℕ) (start size : ℕ) (asked : Asked) (h : RequestHead) (found : Found)
-    → start ≡ empty_lines (window bytes) → head_length bytes ≡ Some size → start + size ≤ length bytes
+pub found_from_whole : (bytes : List ℕ) (start size : ℕ) (asked : Asked) (h : RequestHead) (found : MessageSpans)
+    → start ≡ empty_lines (reach bytes) → head_length bytes ≡ Some size → start + size ≤ length bytes
     → IsHead (slice_range bytes start (start + size)) h → Shows (slice_range bytes start (start + size)) asked h
     → asked.length ≤ length bytes - (start + size)
     → found.method ≡ asked.method → found.path.start ≡ start + asked.path.start → found.path.end ≡ start + asked.path.end
     → found.body.start ≡ start + size → found.body.end ≡ start + size + asked.length → found.close ≡ asked.close
-    → IsFound bytes found
+    → IsWhole bytes found
 unfolding request_of
 found_from_whole bytes start size asked h found is ends fits head shown there method from to body rest close =
     let part = slice_range bytes start (start + size) in
