@@ -23,40 +23,32 @@ use Rattle.gj_request.specs.declared.refusal.Refusal.{Refusal}
 use Rattle.gj_session.specs.Heard.{heard, lack_of, by_body, lack_at, route_reply}
 use Rattle.gj_session.specs.Reference.{reply_of}
 use Rattle.gj_session.proofs.AnswerLemmas.{of_reply}
-use Rattle.gj_session.specs.Runs.{Answers, AnswersAsk, AnswersBatch, IsReply, store_count, is_store}
+use Rattle.gj_session.specs.Outcomes.{Uncounted}
 use Rattle.gj_session.specs.declared.outcome.Outcome.{Outcome}
 use Rattle.gj_session.specs.declared.outcome.Outcome.TheVariants.{Says}
 
--- no query is answered by the store's fault
-pub never_store : (query : Query) (w : Shown) → is_store (Says (reply_of query w)) ≡ false
-never_store query w = of_reply (λ r. is_store (Says r) ≡ false) (record {
-  behind = λ n. refl;
-  walk = λ n r. refl;
-  sub = λ n r. refl;
-  sim = λ n r. refl;
-  user = λ n id d r. refl;
-  post = λ n id d r. refl;
-  stats = λ n b c k. refl;
+-- no count of a seat is about a reference answer
+pub plain_reply : (query : Query) (w : Shown) → Uncounted (reply_of query w)
+plain_reply query w = of_reply Uncounted (record {
+  behind = λ n. tt;
+  walk = λ n r. tt;
+  sub = λ n r. tt;
+  sim = λ n r. tt;
+  user = λ n id d r. tt;
+  post = λ n id d r. tt;
+  stats = λ n b c k. tt;
 }) query w
 
--- a batch that was read, over what was made of it
-pub batch_found : (conf : Configuration) (seat : ℕ) (h : History) (read : Result Ask Refusal) (items : List Item) (lack at : Fixed) (a b : Outcome) (after : History → Type 0)
-    → read ≡ Ok (Items items) → lack ≡ at
-    → ((new : History) × (AnswersBatch seat h items lack a new × (AnswersBatch seat h items lack b new × after new)))
-    → (new : History) × (AnswersAsk conf seat h (by_body read) at a new × (AnswersAsk conf seat h (by_body read) at b new × after new))
-batch_found conf seat h read items lack at a b after e f p = rw (e, ← f) p
-
 -- a message with a route
-pub answers_found : (conf : Configuration) (seat : ℕ) (h : History) (m : Request) (route : Route) (id : Option (List ℕ)) (o : Outcome) (new : History)
-    → found_of m.method m.path ≡ Ok (route, id) → AnswersAsk conf seat h (by_body (asked route id m.body)) (lack_at route) o new → Answers conf seat h m o new
-unfolding Answers heard lack_of
-answers_found conf seat h m route id o new e a = rw e a
+pub of_found : (P : Result Ask Reply → Fixed → Type 0) (m : Request) (route : Route) (id : Option (List ℕ))
+    → found_of m.method m.path ≡ Ok (route, id) → P (by_body (asked route id m.body)) (lack_at route) → P (heard m) (lack_of m)
+unfolding heard lack_of
+of_found P m route id e a = rw e a
 
 -- a message without one
-pub answers_lost : (conf : Configuration) (seat : ℕ) (h : History) (m : Request) (why : RouteError) (o : Outcome)
-    → found_of m.method m.path ≡ Err why → IsReply (route_reply why) Memory o → Answers conf seat h m o h
-unfolding Answers heard lack_of
-answers_lost conf seat h m why o e a = rw e (a, refl)
+pub of_lost : (P : Result Ask Reply → Fixed → Type 0) (m : Request) (why : RouteError) → found_of m.method m.path ≡ Err why → P (Err (route_reply why)) Memory → P (heard m) (lack_of m)
+unfolding heard lack_of
+of_lost P m why e a = rw e a
 
 -- a route has an identifier exactly where its path ends in one
 abbrev HasId : Option Routed → Type 0

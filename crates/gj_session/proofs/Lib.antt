@@ -1,8 +1,12 @@
 pub mod AnswerLemmas
 pub mod AskLemmas
-pub mod CutFacts
+pub mod BatchLemmas
+pub mod EndLemmas
+pub mod GoingLemmas
 pub mod InputLemmas
-pub mod PartLemmas
+pub mod LackLemmas
+pub mod LawLemmas
+pub mod LoopLemmas
 pub mod RecentLemmas
 pub mod RunLemmas
-pub mod SessionLemmas
+pub mod StreamLemmas

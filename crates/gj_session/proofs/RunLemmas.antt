@@ -1,41 +1,82 @@
--- Runs and the exchanges of a session, put together.
-use Rattle.std.proofs.Common.{◌≡◌, ◌⊎◌, inl, inr, ℕ, ◌+◌, ◌-◌, ◌^◌, ◌<◌, ◌≤◌, ◌∙◌, min, Bool, true, false, List, [], ◌∷◌, ◌++◌, length, map, count_by, refl, ap, sym, subst, arith, append_assoc, append-nil, length-append}
-use Rattle.std.specs.List.{flat_map, list_any}
+-- What a run says of an index that answers alone.
+use Rattle.std.proofs.Common.{◌≡◌, ℕ, ◌+◌, ◌-◌, ◌^◌, ◌<◌, ◌≤◌, ◌==◌, ◌∙◌, min, Bool, true, false, List, [], ◌∷◌, ◌++◌, length, map, count_by, cond, if◌then◌else◌, Result, refl, ap, sym, subst, arith, length-append, eq-eqb}
 use Rattle.std.proofs.lemmas.List.{length-map}
-use Rattle.std.proofs.lemmas.Grind.{flat_map-append}
-use Rattle.gj_base.specs.declared.history.History.{History}
-use Rattle.gj_base.specs.declared.history.Shown.{Shown}
-use Rattle.gj_base.specs.declared.item.Item.{Item}
-use Rattle.gj_base.specs.declared.item.Entry.{Entry}
+use Rattle.std.proofs.lemmas.List.Sums.{sum_by-append}
+use Rattle.gj_base.specs.Causes.{RoseBy}
 use Rattle.gj_base.specs.Configuration.{Configuration}
-use Rattle.gj_base.specs.History.{StandsFor, end_of, length_of, extend, entries_by}
-use Rattle.gj_base.proofs.Windows.{stands_end}
-use Rattle.gj_reply.specs.declared.reply.Reply.TheVariants.{Posted, Full}
+use Rattle.gj_base.specs.History.{length_of, extend, entries_by}
+use Rattle.gj_base.specs.declared.ask.Ask.{Ask}
+use Rattle.gj_base.specs.declared.history.History.{History}
+use Rattle.gj_base.specs.declared.item.Entry.{Entry}
+use Rattle.gj_base.specs.declared.item.Item.{Item}
+use Rattle.gj_http.specs.Request.{Request}
 use Rattle.gj_reply.specs.declared.fixed.Fixed.{Fixed}
-use Rattle.gj_reply.specs.declared.fixed.Fixed.TheVariants as fixed
-use Rattle.gj_session.specs.Runs.{Exchange, Run, SaysOfBatch, StandsForBatch}
+use Rattle.gj_reply.specs.declared.reply.Reply.{Reply}
+use Rattle.gj_session.specs.Answers.{Mark, mark_at, entries_of, Answers, AnswersAsk}
+use Rattle.gj_session.specs.Heard.{heard, lack_of}
+use Rattle.gj_session.specs.IndexRuns.{IndexAt, IndexAnswers, IndexRan, one_if}
+use Rattle.gj_session.specs.Loop.{LedBy}
+use Rattle.gj_session.specs.Outcomes.{is_store}
+use Rattle.gj_session.specs.Runs.{Exchange, Run}
+use Rattle.gj_session.specs.declared.outcome.Outcome.{Outcome}
+
+-- a count, one member further
+pub count_more : {X : Type 0} (p : X → Bool) (x : X) (xs : List X) → count_by p (x ∷ xs) ≡ one_if (p x) + count_by p xs
+count_more p x xs = omega (arith, sum_by-append (λ y. cond (p y) 1 0) (x ∷ []) xs)
+
+pub rose_then : (n m f0 f1 f2 : ℕ) → RoseBy n f0 f1 → RoseBy m f1 f2 → RoseBy (n + m) f0 f2
+rose_then n m f0 f1 f2 x y = omega arith
+
+-- a count of exchanges rises as it rises by one and by the rest
+pub rose_more : (p : Exchange → Bool) (e : Exchange) (es : List Exchange) (a b c : ℕ) → RoseBy (one_if (p e)) a b → RoseBy (count_by p es) b c → RoseBy (count_by p (e ∷ es)) a c
+rose_more p e es a b c x y = subst (λ (n : ℕ). RoseBy n a c) (sym (count_more p e es)) (rose_then (one_if (p e)) (count_by p es) a b c x y)
+
+-- an ask that was answered is a message that was answered
+pub answers_message : (conf : Configuration) (alone : Bool) (seat : ℕ) (a : Mark) (m : Request) (o : Outcome) (b : Mark)
+    → AnswersAsk conf alone seat a (heard m) (lack_of m) o b → Answers conf alone seat a m o b
+unfolding Answers
+answers_message conf alone seat a m o b x = x
+
+-- what an index answers
+abbrev pub IndexMay : (S : Type 0) (at : S → IndexAt) → S → Result Ask Reply → Fixed → Outcome → S → Type 0
+IndexMay S at x ask lack o y = IndexAnswers (at x) (at y) ask lack o
+
+none_ran : (a : IndexAt) → IndexRan a a []
+none_ran a = record {
+  same = refl;
+  runs = λ h seat shows. (h, (refl, record { shows = shows; keeps = λ kept. kept }));
+  stores = omega arith;
+}
+
+pub index_ran : (S : Type 0) (at : S → IndexAt) (x y : S) (es : List Exchange) → LedBy S (IndexMay S at) x y es → IndexRan (at x) (at y) es
+index_ran S at x y [] e = subst (λ (s : S). IndexRan (at x) (at s) []) (sym e) (none_ran (at x))
+index_ran S at x y (e ∷ es) l =
+    let one = l.1.0 in
+    let rest = index_ran S at l.0 y es l.1.1 in
+    record {
+      same = rest.same ∙ one.same;
+      runs = λ h seat shows.
+          let first = one.answers h seat shows in
+          let later = rest.runs first.0 seat first.1.1.shows in
+          let conf = (at x).viewed in
+          let run : Run (record { capacity = conf.capacity; segments = conf.segments }) true seat (mark_at seat first.0) (mark_at seat later.0) es = rw (← one.same) later.1.0 in
+          (later.0, ((mark_at seat first.0, (answers_message _ true seat (mark_at seat h) e.message e.outcome (mark_at seat first.0) first.1.0, run)),
+              record { shows = later.1.1.shows; keeps = λ kept. later.1.1.keeps (first.1.1.keeps kept) }));
+      stores = rose_more (λ e. is_store e.outcome) e es (at x).faults (at l.0).faults (at y).faults one.stores rest.stores;
+    }
 
 pub length_extend : (h : History) (seat : ℕ) (items : List Item) → length_of (extend h (entries_by seat items)) ≡ length_of h + length items
 length_extend h seat items = omega (arith, length-append h.entries (entries_by seat items), length-map items (λ (x : Item). (let e : Entry = record { item = x; by = seat } in e)))
 
--- a batch that was kept, by its receipt
-pub posted : (w : Shown) (h : History) (seat : ℕ) (items : List Item) (from to : ℕ) → 1 ≤ w.segments → StandsFor w h
-    → from ≡ end_of w → to ≡ end_of w + length items → to ≤ 2 ^ 48
-    → SaysOfBatch seat h items (Posted from to) (extend h (entries_by seat items))
-posted w h seat items from to some stands at ends high =
-    let e = stands_end w h some stands in
-    (refl, at ∙ e, ends ∙ ap (λ n. n + length items) e ∙ sym (length_extend h seat items), high)
+-- all entries of the seat's batch are by it
+own_entries : (seat : ℕ) (items : List Item) → count_by (λ (e : Entry). e.by == seat) (entries_by seat items) ≡ length items
+own_entries seat [] = refl
+own_entries seat (x ∷ items) =
+    let e : Entry = record { item = x; by = seat } in
+    let step = count_more (λ (e : Entry). e.by == seat) e (entries_by seat items) in
+    let here : one_if (seat == seat) ≡ one_if true = ap one_if (eq-eqb seat seat refl) in
+    omega (arith, step, here, own_entries seat items)
 
--- a batch for which there is no room
-pub full : (w : Shown) (h : History) (seat : ℕ) (items : List Item) (n : ℕ) → 1 ≤ w.segments → StandsFor w h
-    → n ≡ end_of w → 2 ^ 48 < end_of w + length items → SaysOfBatch seat h items (Full n) h
-full w h seat items n some stands at over =
-    let e = stands_end w h some stands in
-    (refl, at ∙ e, omega (arith, at))
-
--- a batch that was not kept, where no memory was found
-pub lacked : (seat : ℕ) (h : History) (items : List Item) (lack : Fixed) → (lack ≡ fixed.Accepted → ⊥) → StandsForBatch seat h items lack lack h
-lacked seat h items fixed.Accepted never = absurd (never refl)
-lacked seat h items fixed.Memory never = (refl, refl)
-lacked seat h items fixed.NotAccepted never = (refl, refl)
-lacked seat h items fixed.NoLook never = (refl, refl)
+pub entered_more : (h : History) (seat : ℕ) (items : List Item) → entries_of seat (extend h (entries_by seat items)) ≡ entries_of seat h + length items
+entered_more h seat items =
+    sum_by-append (λ (e : Entry). cond (e.by == seat) 1 0) h.entries (entries_by seat items) ∙ ap (λ n. entries_of seat h + n) (own_entries seat items)

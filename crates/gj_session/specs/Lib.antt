@@ -1,4 +1,10 @@
+pub mod Answers
+pub mod AnsweringLaws
 pub mod Heard
+pub mod IndexRuns
+pub mod Loop
+pub mod Outcomes
 pub mod Reference
 pub mod Runs
 pub mod Sessions
+pub mod Streams

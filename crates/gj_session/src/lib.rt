@@ -1,22 +1,25 @@
 //! Sessions: what a message is answered, and what a whole stream of messages is.
 //!
-//! Contracts see a session as its exchanges, each a message with its answer, over the histories that an index keeps; an
-//! answer to a query is the reference reply over the window of such a history. Asks and replies take memory; where none
-//! is found, a fixed reply stands. No thread is started.
+//! Contracts see a session as its exchanges, each a message with its answer, over the histories for which an index
+//! stands; an answer to a query is the reference reply over the window of such a history. Asks and replies take memory;
+//! where none is found, a fixed reply stands. No thread is started.
 #![tactic(auto)]
 
-mod accept;
-mod answer;
-#[cfg(test)]
-mod answer_tests;
+mod accepting;
+mod answering;
+mod laws;
 mod message;
 mod outcome;
 mod recent;
+mod replaying;
+mod replying;
 mod sending;
 mod session;
+mod wire;
 
-pub use accept::accept_on;
-pub use answer::answer_on;
+pub use accepting::accept_on;
+pub use laws::whole_replies;
 pub use outcome::{End, Outcome};
+pub use replaying::replay_session;
+pub use replying::answer_on;
 pub use sending::send;
-pub use session::replay_session;

@@ -1,25 +1,29 @@
 //! What a message is answered.
-ghost use Rattle.std.specs.Prelude.{◌≡◌, ℕ, Option, is_some, option_map};
-ghost use Rattle.gj_base.specs.declared.history.History.{History};
-ghost use Rattle.gj_base.specs.History.{conf_of};
+ghost use Rattle.std.specs.Prelude.{◌≡◌, is_some, option_map};
 ghost use Rattle.gj_http.specs.Request.{request};
-ghost use Rattle.gj_request.specs.Requests.{asked, has_id};
-ghost use Rattle.gj_reply.specs.declared.fixed.Fixed.TheVariants as fixed;
-ghost use Rattle.gj_session.specs.Heard.{refusal_reply, route_reply, lack_at, by_body};
-ghost use Rattle.gj_session.specs.Runs.{Answers, AnswersAsk, store_count, RoseBy};
+ghost use Rattle.gj_request.specs.Requests.{asked, has_id, IsAsked};
+ghost use Rattle.gj_session.specs.Heard.{heard, lack_of, refusal_reply, route_reply, lack_at, by_body, LacksBy};
+ghost use Rattle.gj_session.specs.Outcomes.{IsLack, Uncounted, lack_after};
 
-use crate::accept::{Answer, post_batch};
-use crate::answer::answer_on;
+use crate::answering::Answering;
 use crate::outcome::Outcome;
-use gj_base::{Ask, Index, Route};
+use gj_base::{Ask, ItemList, Route};
 use gj_http::{Message, RouteError, Routes};
 use gj_reply::{Fixed, Reply};
 use gj_request::{Refusal, read_request};
 use std::alloc::Global;
 
+/// An answer, and the fixed reply that takes its place where it finds no memory.
+#[derive(Drop)]
+pub(crate) struct Answer {
+    pub outcome: Outcome,
+    pub lack: Fixed,
+}
+
 /// The reply to a body that asks for nothing.
 fn reply_to_refusal(why: Refusal) -> Reply
-    ensures { result ≡ refusal_reply why }
+    ensures exact { result ≡ refusal_reply why }
+    ensures plain { Uncounted result }
 {
     match why {
         Refusal::Json | Refusal::Memory => Reply::BadJson,
@@ -30,7 +34,8 @@ fn reply_to_refusal(why: Refusal) -> Reply
 
 /// The reply to a path without a route.
 fn reply_to_path(why: RouteError) -> Reply
-    ensures { result ≡ route_reply why }
+    ensures exact { result ≡ route_reply why }
+    ensures plain { Uncounted result }
 {
     match why {
         RouteError::NoRoute => Reply::NoRoute,
@@ -39,10 +44,10 @@ fn reply_to_path(why: RouteError) -> Reply
     }
 }
 
-/// The fixed reply that stands where no memory is found.
+/// The fixed reply of want of memory.
 fn lack_for(route: Route) -> Fixed
     ensures exact { result ≡ lack_at route }
-    ensures never { result ≡ fixed.Accepted → ⊥ }
+    ensures lack { IsLack result }
 {
     match route {
         Route::Interactions => Fixed::NotAccepted,
@@ -50,77 +55,105 @@ fn lack_for(route: Route) -> Fixed
     }
 }
 
-/// Answers the query.
-#[tactic(auto, using(crate::proofs::AskLemmas::never_store))]
-fn answer_query<I: Index>(alloc: Global, index: &I, query: &Query, lack: Fixed) -> Outcome
-    ensures never_store { store_count result ≡ 0 }
-    ensures answers { (h : History) → I.keeps index.now h
-        → IsReply (reply_of query.now (window_under (conf_of (I.viewed index.now)) h)) lack result }
+/// The fixed reply that takes the place of what is answered to a batch.
+fn lack_for_batch(outcome: &Outcome) -> Fixed
+    ensures { result ≡ lack_after outcome.now Fixed.NotAccepted }
 {
-    match answer_on(alloc, index.view(), query) {
-        Ok(reply) => Outcome::Says(reply),
-        Err(_) => Outcome::Stands(lack),
+    match outcome {
+        Outcome::Says(Reply::Posted { from: _, length: _ }) => Fixed::Accepted,
+        Outcome::Says(_) => Fixed::NotAccepted,
+        Outcome::Stands(which) => *which,
     }
 }
 
-ghost use Rattle.gj_session.specs.Reference.{reply_of};
-ghost use Rattle.gj_session.specs.Runs.{window_under, IsReply};
+/// Posts a batch.
+fn answer_batch<C, A: Answering<C>>(answerer: &mut A, shared: &C, items: ItemList) -> Answer
+    requires some { 1 ≤ length items }
+    requires few { length items ≤ 4096 }
+    ensures answers { A.answers answerer.old (Ok (asks.Items items)) Fixed.NotAccepted result.outcome answerer.new }
+    ensures lacks { A.answers answerer.old (Ok (asks.Items items)) Fixed.NotAccepted (Outcome.Stands result.lack) answerer.new }
+{
+    let outcome = answerer.post(shared, items);
+    let lack = lack_for_batch(&outcome);
+    Answer { outcome, lack }
+}
 
-use gj_base::Query;
+ghost use Rattle.std.specs.Prelude.{◌≤◌, length, Ok, Err};
+ghost use Rattle.gj_base.specs.declared.ask.Ask.TheVariants as asks;
+
+/// Answers what a body asks for.
+fn answer_ask<C, A: Answering<C>>(
+    answerer: &mut A,
+    shared: &C,
+    alloc: Global,
+    ask: Ask,
+    lack: Fixed,
+) -> Answer
+    requires lack { IsLack lack }
+    requires by_ask { LacksBy ask lack }
+    requires in_range { IsAsked ask }
+    ensures answers { A.answers answerer.old (Ok ask) lack result.outcome answerer.new }
+    ensures lacks { A.answers answerer.old (Ok ask) lack (Outcome.Stands result.lack) answerer.new }
+{
+    match ask {
+        Ask::Items(items) => answer_batch(answerer, shared, items),
+        Ask::Query(query) => Answer {
+            outcome: answerer.query(shared, alloc, &query, lack),
+            lack,
+        },
+    }
+}
+
+/// Answers a message that asks for nothing.
+fn refuse_ask<C, A: Answering<C>>(_answerer: &A, _shared: &C, reply: Reply, lack: Fixed) -> Answer
+    requires lack { IsLack lack }
+    requires plain { Uncounted reply }
+    ensures answers { A.answers _answerer.now (Err reply) lack result.outcome _answerer.now }
+    ensures lacks { A.answers _answerer.now (Err reply) lack (Outcome.Stands result.lack) _answerer.now }
+{
+    Answer {
+        outcome: Outcome::Says(reply),
+        lack,
+    }
+}
 
 /// Answers a message that has a route.
-fn answer_found<I: Index>(
+fn answer_found<C, A: Answering<C>>(
+    answerer: &mut A,
+    shared: &C,
     alloc: Global,
-    index: &mut I,
     route: Route,
     id: Option<&str>,
     body: &[u8],
 ) -> Answer
     requires { is_some id ≡ has_id route }
-    ensures answers { (h : History) (seat : ℕ) → I.keeps index.old h
-        → (new : History) × (AnswersAsk (conf_of (I.viewed index.old)) seat h (by_body (asked route (option_map (λ t. t.now) id.entry) body.now)) (lack_at route) result.outcome new
-        × (AnswersAsk (conf_of (I.viewed index.old)) seat h (by_body (asked route (option_map (λ t. t.now) id.entry) body.now)) (lack_at route) (Outcome.Stands result.lack) new
-        × I.keeps index.new new)) }
-    ensures conf { conf_of (I.viewed index.new) ≡ conf_of (I.viewed index.old) }
-    ensures stores { RoseBy (store_count result.outcome) (I.faults index.old) (I.faults index.new) }
+    ensures answers { A.answers answerer.old (by_body (asked route (option_map (λ t. t.now) id.entry) body.now)) (lack_at route) result.outcome answerer.new }
+    ensures lacks { A.answers answerer.old (by_body (asked route (option_map (λ t. t.now) id.entry) body.now)) (lack_at route) (Outcome.Stands result.lack) answerer.new }
 {
     let lack = lack_for(route);
     match read_request(alloc, route, id, body) {
-        Ok(Ask::Items(items)) => post_batch(index, &items, lack),
-        Ok(Ask::Query(query)) => Answer {
-            outcome: answer_query(alloc, index, &query, lack),
-            lack,
-        },
+        Ok(ask) => answer_ask(answerer, shared, alloc, ask, lack),
         Err(Refusal::Memory) => Answer {
             outcome: Outcome::Stands(lack),
             lack,
         },
-        Err(why) => Answer {
-            outcome: Outcome::Says(reply_to_refusal(why)),
-            lack,
-        },
+        Err(why) => refuse_ask(answerer, shared, reply_to_refusal(why), lack),
     }
 }
 
 /// Answers a message.
-pub(crate) fn answer_message<I: Index>(
+pub(crate) fn answer_message<C, A: Answering<C>>(
+    answerer: &mut A,
+    shared: &C,
     alloc: Global,
-    index: &mut I,
     routes: &Routes,
     message: Message,
 ) -> Answer
-    ensures answers { (h : History) (seat : ℕ) → I.keeps index.old h
-        → (new : History) × (Answers (conf_of (I.viewed index.old)) seat h (request message.entry) result.outcome new
-        × (Answers (conf_of (I.viewed index.old)) seat h (request message.entry) (Outcome.Stands result.lack) new
-        × I.keeps index.new new)) }
-    ensures conf { conf_of (I.viewed index.new) ≡ conf_of (I.viewed index.old) }
-    ensures stores { RoseBy (store_count result.outcome) (I.faults index.old) (I.faults index.new) }
+    ensures answers { A.answers answerer.old (heard (request message.entry)) (lack_of (request message.entry)) result.outcome answerer.new }
+    ensures lacks { A.answers answerer.old (heard (request message.entry)) (lack_of (request message.entry)) (Outcome.Stands result.lack) answerer.new }
 {
     match routes.find(message.method, message.path) {
-        Ok(found) => answer_found(alloc, index, found.route, found.id, message.body),
-        Err(why) => Answer {
-            outcome: Outcome::Says(reply_to_path(why)),
-            lack: Fixed::Memory,
-        },
+        Ok(found) => answer_found(answerer, shared, alloc, found.route, found.id, message.body),
+        Err(why) => refuse_ask(answerer, shared, reply_to_path(why), Fixed::Memory),
     }
 }

@@ -1,19 +1,21 @@
 //! A session: it takes bytes, answers the messages in them, and writes the answers.
-ghost use Rattle.std.specs.Prelude.{◌≡◌, ◌+◌, ◌^◌, ◌≤◌, [], length, IsTrue, Some, true};
-ghost use Rattle.gj_base.specs.Causes.{HasCause, Rose};
-ghost use Rattle.gj_base.specs.History.{conf_of};
+ghost use Rattle.std.specs.Prelude.{◌≡◌, ◌≢◌, ◌<◌, ◌≤◌, length, IfOk, IfSome, OnErr, IsOk, IsTrue, Some, None, true, if◌then◌else◌};
 ghost use Rattle.gj_http.specs.Request.{request};
-ghost use Rattle.gj_http.specs.Cut.{IsRefused};
-ghost use Rattle.gj_session.specs.declared.outcome.Outcome.{Outcome};
+ghost use Rattle.gj_session.specs.declared.outcome.End.{End};
 ghost use Rattle.gj_session.specs.declared.outcome.End.TheVariants as ends;
-ghost use Rattle.gj_session.specs.Sessions.{Answered, Drained, Ends, Ended, RefusalEnds};
+ghost use Rattle.gj_session.specs.Heard.{framing_reply, heard, lack_of};
+ghost use Rattle.gj_session.specs.Loop.{Answered, Drained, EndsInput, IsByMessages, LedBy, RefusalEnds, TookNone, TookPiece};
+ghost use Rattle.gj_session.specs.Sessions.{Replayed, IsByInput, EndsByInput};
 
-use crate::accept::Answer;
-use crate::message::answer_message;
+use crate::answering::Answering;
+use crate::message::{Answer, answer_message};
 use crate::outcome::{End, Outcome};
 use crate::sending::send_answer;
-use gj_base::{Failed, Index, Sink, Source};
-use gj_http::{Framer, Message, Refused, Routes, Step};
+use crate::wire::Wire;
+use gj_base::Failed;
+use gj_http::{
+    Framer, Message, Refused, Routes, Step, beginnings, loop_keeps, one_cut, one_front,
+};
 use gj_reply::{Fixed, Reply};
 use std::alloc::Global;
 
@@ -33,26 +35,27 @@ fn reply_to_bytes(why: Refused) -> Reply
     }
 }
 
-ghost use Rattle.gj_session.specs.Heard.{framing_reply};
-
 /// Answers one message. The session ends where it asks for close, and where the write fails.
-fn exchange<I: Index, O: Sink>(
+fn exchange<C, A: Answering<C>, O, B: Wire<O>>(
     alloc: Global,
-    index: &mut I,
+    answerer: &mut A,
+    shared: &C,
     routes: &Routes,
+    wire: &mut B,
     out: &mut O,
     message: Message,
+    number: u64,
 ) -> Option<End>
-    ensures told { O.tells out.new ≡ O.tells out.old }
-    ensures conf { conf_of (I.viewed index.new) ≡ conf_of (I.viewed index.old) }
-    ensures answered { Answered (conf_of (I.viewed index.old)) (I.keeps index.old) (I.keeps index.new) (I.faults index.old) (I.faults index.new)
-        (IsTrue (O.tells out.old)) (O.written out.old) (O.written out.new) (request message.entry) result }
-    ensures cause { result ≡ Some ends.WriteFault → Rose (O.faults out.old) (O.faults out.new) }
-    ensures later { O.faults out.old ≤ O.faults out.new }
+    ensures answered { Answered (λ outcome. A.answers answerer.old (heard (request message.entry)) (lack_of (request message.entry)) outcome answerer.new)
+        (B.going wire.old out.old) (B.going wire.new out.new) (request message.entry).close result }
+    ensures steady { B.steady wire.old out.old → B.steady wire.new out.new }
+    ensures others { B.coming wire.new out.new ≡ B.coming wire.old out.old }
 {
     let close = message.close;
-    let answer = answer_message(alloc, index, routes, message);
-    match send_answer(alloc, out, &answer, close) {
+    answerer.before(shared, number);
+    let answer = answer_message(answerer, shared, alloc, routes, message);
+    answerer.after(shared, number);
+    match send_answer(alloc, wire, out, &answer, close) {
         Err(Failed) => Some(End::WriteFault),
         Ok(()) => ended_by(close),
     }
@@ -65,48 +68,51 @@ fn ended_by(close: bool) -> Option<End>
     if close { Some(End::Closed) } else { None }
 }
 
-ghost use Rattle.std.specs.Prelude.{None, if◌then◌else◌};
-
 /// Writes the reply to bytes that are no message, with close.
-fn refuse<O: Sink>(alloc: Global, out: &mut O, why: Refused) -> End
-    ensures told { O.tells out.new ≡ O.tells out.old }
-    ensures ends { RefusalEnds result (IsTrue (O.tells out.old)) (O.written out.old) (O.written out.new) why }
-    ensures cause { result ≡ ends.WriteFault → Rose (O.faults out.old) (O.faults out.new) }
-    ensures later { O.faults out.old ≤ O.faults out.new }
+fn refuse<O, B: Wire<O>>(alloc: Global, wire: &mut B, out: &mut O, why: Refused) -> End
+    ensures ends { RefusalEnds result (B.going wire.old out.old) (B.going wire.new out.new) why }
+    ensures steady { B.steady wire.old out.old → B.steady wire.new out.new }
+    ensures others { B.coming wire.new out.new ≡ B.coming wire.old out.old }
 {
     let answer = Answer {
         outcome: Outcome::Says(reply_to_bytes(why)),
         lack: Fixed::Memory,
     };
-    match send_answer(alloc, out, &answer, true) {
+    match send_answer(alloc, wire, out, &answer, true) {
         Err(Failed) => End::WriteFault,
         Ok(()) => End::Stopped(why),
     }
 }
 
 /// Answers the messages that are held, in order, until more bytes are needed or the session ends.
-fn drain<I: Index, O: Sink>(
+fn drain<C, A: Answering<C>, O, B: Wire<O>>(
     alloc: Global,
-    index: &mut I,
+    answerer: &mut A,
+    shared: &C,
     routes: &Routes,
     framer: &mut Framer,
+    wire: &mut B,
     out: &mut O,
+    number: &mut u64,
 ) -> Option<End>
-    ensures told { O.tells out.new ≡ O.tells out.old }
-    ensures conf { conf_of (I.viewed index.new) ≡ conf_of (I.viewed index.old) }
-    ensures drained { Drained (conf_of (I.viewed index.old)) (I.keeps index.old) (I.keeps index.new) (I.faults index.old) (I.faults index.new)
-        (IsTrue (O.tells out.old)) (O.written out.old) (O.written out.new) framer.old.bytes framer.new.bytes result }
+    ensures drained { Drained (LedBy A A.answers answerer.old answerer.new) (B.going wire.old out.old) (B.going wire.new out.new)
+        framer.old.bytes framer.new.bytes result }
     ensures room { result ≡ None → 8192 ≤ framer.new.room }
     ensures by_messages { IfSome result IsByMessages }
-    ensures cause { result ≡ Some ends.WriteFault → Rose (O.faults out.old) (O.faults out.new) }
-    ensures later { O.faults out.old ≤ O.faults out.new }
+    ensures steady { B.steady wire.old out.old → B.steady wire.new out.new }
+    ensures others { B.coming wire.new out.new ≡ B.coming wire.old out.old }
 {
+    loop_keeps();
+    one_front();
     'messages: loop {
         match framer.take_next() {
             Step::NeedMore => return None,
-            Step::Refused(why) => return Some(refuse(alloc, out, why)),
+            Step::Refused(why) => return Some(refuse(alloc, wire, out, why)),
             Step::Message(message) => {
-                if let Some(end) = exchange(alloc, index, routes, out, message) {
+                *number = number.saturating_add(1);
+                if let Some(end) = exchange(
+                    alloc, answerer, shared, routes, wire, out, message, *number,
+                ) {
                     return Some(end);
                 }
             }
@@ -114,28 +120,25 @@ fn drain<I: Index, O: Sink>(
     }
 }
 
-/// Takes the next bytes of the source to the framer, and answers how many.
-fn take_piece<S: Source>(
-    input: &mut S,
+/// Takes the next bytes of the wire to the framer, and answers how many.
+fn take_piece<O, B: Wire<O>>(
+    wire: &mut B,
+    out: &mut O,
     framer: &mut Framer,
     piece: &mut [u8],
 ) -> Result<usize, Failed>
     requires some { 0 < length piece.old }
     requires room { length piece.old ≤ framer.old.room }
-    ensures told { S.tells input.new ≡ S.tells input.old }
-    ensures ok { IfOk result (λ n. Feeds (IsTrue (S.tells input.old)) (S.stream input.old) (S.stream input.new) framer.old.bytes framer.new.bytes n) }
-    ensures err { OnErr result (framer.new ≡ framer.old) }
-    ensures err_stream { IsTrue (S.tells input.old) → OnErr result (S.stream input.new ≡ S.stream input.old) }
-    ensures cause { HasCause (S.faults input.old) (S.faults input.new) result }
-    ensures steady { S.steady input.old → IsOk result × S.steady input.new }
+    ensures ok { IfOk result (λ n. TookPiece (B.coming wire.old out.old) (B.coming wire.new out.new) framer.old.bytes framer.new.bytes n) }
+    ensures err { OnErr result (TookNone (B.coming wire.old out.old) (B.coming wire.new out.new)) }
+    ensures same { OnErr result (framer.new ≡ framer.old) }
+    ensures steady { B.steady wire.old out.old → IsOk result × B.steady wire.new out.new }
+    ensures others { B.going wire.new out.new ≡ B.going wire.old out.old }
 {
-    let n = input.read(piece)?;
+    let n = wire.take(out, piece)?;
     framer.feed(&piece[..n]);
     Ok(n)
 }
-
-ghost use Rattle.std.specs.Prelude.{◌<◌, IfOk, IfSome, OnErr, IsOk};
-ghost use Rattle.gj_session.specs.Sessions.{Feeds, IsByMessages};
 
 /// How a session ends where its input does.
 fn at_end(framer: &Framer) -> End
@@ -148,83 +151,68 @@ fn at_end(framer: &Framer) -> End
     }
 }
 
-ghost use Rattle.gj_session.specs.Sessions.{EndsInput};
-
-/// Takes, answers and writes, turn by turn.
-fn run_session<S: Source, O: Sink, I: Index>(
+/// Takes, answers and writes, turn by turn: every session's loop. What was held by the framer is dropped.
+pub(crate) fn run_session<C, A: Answering<C>, O, B: Wire<O>>(
     alloc: Global,
-    index: &mut I,
+    answerer: &mut A,
+    shared: &C,
     routes: &Routes,
     framer: &mut Framer,
-    input: &mut S,
+    wire: &mut B,
     out: &mut O,
     turns: u64,
 ) -> End
-    // What was taken, answered and written, by the end.
-    ensures replayed { Replayed (conf_of (I.viewed index.old)) (I.keeps index.old) (I.keeps index.new) (I.faults index.old) (I.faults index.new)
-        (IsTrue (S.tells input.old)) (IsTrue (O.tells out.old)) (S.stream input.old) (S.stream input.new) (O.written out.old) (O.written out.new) turns result }
-
-    // The causes.
-    ensures read_cause { result ≡ End.ReadFault → Rose (S.faults input.old) (S.faults input.new) }
-    ensures write_cause { result ≡ End.WriteFault → Rose (O.faults out.old) (O.faults out.new) }
-    ensures read_later { S.faults input.old ≤ S.faults input.new }
-    ensures write_later { O.faults out.old ≤ O.faults out.new }
-    ensures steady { S.steady input.old → result ≡ End.ReadFault → ⊥ }
-
-    // What stays.
-    ensures read_told { S.tells input.new ≡ S.tells input.old }
-    ensures write_told { O.tells out.new ≡ O.tells out.old }
-    ensures conf { conf_of (I.viewed index.new) ≡ conf_of (I.viewed index.old) }
+    ensures replayed { Replayed (LedBy A A.answers answerer.old answerer.new) (B.coming wire.old out.old) (B.coming wire.new out.new)
+        (B.going wire.old out.old) (B.going wire.new out.new) turns result }
+    ensures by_input { IsTrue (B.coming wire.old out.old).tells → IsByInput result → EndsByInput (B.coming wire.old out.old).stream.left result }
+    ensures steady { B.steady wire.old out.old → result ≢ End.ReadFault }
 {
+    let end = take_turns(alloc, answerer, shared, routes, framer, wire, out, turns);
+    loop_keeps();
+    one_cut();
+    beginnings();
+    end
+}
+
+/// The same, of which the end is not known yet by the whole input.
+fn take_turns<C, A: Answering<C>, O, B: Wire<O>>(
+    alloc: Global,
+    answerer: &mut A,
+    shared: &C,
+    routes: &Routes,
+    framer: &mut Framer,
+    wire: &mut B,
+    out: &mut O,
+    turns: u64,
+) -> End
+    ensures replayed { Replayed (LedBy A A.answers answerer.old answerer.new) (B.coming wire.old out.old) (B.coming wire.new out.new)
+        (B.going wire.old out.old) (B.going wire.new out.new) turns result }
+    ensures steady { B.steady wire.old out.old → result ≢ End.ReadFault }
+{
+    loop_keeps();
+    one_front();
     framer.reset();
     let mut piece = [0u8; PIECE];
+    let mut number = 0;
     'turns: for turn in 0..turns {
-        let Ok(n) = take_piece(input, framer, &mut piece) else {
+        let Ok(n) = take_piece(wire, out, framer, &mut piece) else {
             return End::ReadFault;
         };
         if n == 0 {
             return at_end(framer);
         }
-        if let Some(end) = drain(alloc, index, routes, framer, out) {
+        if let Some(end) = drain(
+            alloc,
+            answerer,
+            shared,
+            routes,
+            framer,
+            wire,
+            out,
+            &mut number,
+        ) {
             return end;
         }
     }
     End::Turns
 }
-
-/// Answers the messages of the source in order, and writes the answers to the sink. `turns` is the most reads, each of at
-/// most 8192 bytes. It takes memory for the asks and the replies, and for each reply of its own one write is made; it
-/// waits where the source or the sink does. What was held by the framer is dropped.
-pub fn replay_session<S: Source, O: Sink, I: Index>(
-    alloc: Global,
-    index: &mut I,
-    routes: &Routes,
-    framer: &mut Framer,
-    input: &mut S,
-    out: &mut O,
-    turns: u64,
-) -> End
-    // What was taken, answered and written, by the end.
-    ensures replayed { Replayed (conf_of (I.viewed index.old)) (I.keeps index.old) (I.keeps index.new) (I.faults index.old) (I.faults index.new)
-        (IsTrue (S.tells input.old)) (IsTrue (O.tells out.old)) (S.stream input.old) (S.stream input.new) (O.written out.old) (O.written out.new) turns result }
-
-    // Without a fault the end is a function of the whole input.
-    ensures by_input { IsTrue (S.tells input.old) → IsByInput result → EndsByInput (S.stream input.old).left result }
-
-    // The causes.
-    ensures read_cause { result ≡ End.ReadFault → Rose (S.faults input.old) (S.faults input.new) }
-    ensures write_cause { result ≡ End.WriteFault → Rose (O.faults out.old) (O.faults out.new) }
-    ensures read_later { S.faults input.old ≤ S.faults input.new }
-    ensures write_later { O.faults out.old ≤ O.faults out.new }
-    ensures steady { S.steady input.old → result ≡ End.ReadFault → ⊥ }
-
-    // What stays.
-    ensures read_told { S.tells input.new ≡ S.tells input.old }
-    ensures write_told { O.tells out.new ≡ O.tells out.old }
-    ensures conf { conf_of (I.viewed index.new) ≡ conf_of (I.viewed index.old) }
-{
-    run_session(alloc, index, routes, framer, input, out, turns)
-}
-
-ghost use Rattle.gj_session.specs.Sessions.{Replayed, IsByInput, EndsByInput};
-ghost use Rattle.gj_session.specs.declared.outcome.End.{End};

@@ -1,0 +1,83 @@
+-- What a run alone owes to its messages.
+use Rattle.std.proofs.Common.{◌≡◌, ◌⊎◌, inl, inr, ℕ, ◌+◌, ◌-◌, ◌^◌, ◌<◌, ◌≤◌, ◌∙◌, min, Bool, true, false, List, length, Result, Ok, Err, if◌then◌else◌, nat_lt, refl, sym, ap, subst, arith}
+use Rattle.std.proofs.lemmas.Bool.{le-ltb}
+use Rattle.gj_base.specs.Causes.{RoseBy}
+use Rattle.gj_base.specs.Configuration.{Configuration}
+use Rattle.gj_base.specs.History.{end_of, length_of}
+use Rattle.gj_base.specs.declared.ask.Ask.{Ask}
+use Rattle.gj_base.specs.declared.ask.Ask.TheVariants as asks
+use Rattle.gj_base.specs.declared.ask.Query.{Query}
+use Rattle.gj_base.specs.declared.ask.Query.TheVariants as queries
+use Rattle.gj_base.specs.declared.history.History.{History}
+use Rattle.gj_base.specs.declared.history.Shown.{Shown}
+use Rattle.gj_base.specs.declared.item.Item.{Item}
+use Rattle.gj_http.specs.Request.{Request}
+use Rattle.gj_reply.specs.Statuses.{status_of}
+use Rattle.gj_reply.specs.declared.fixed.Fixed.{Fixed}
+use Rattle.gj_reply.specs.declared.fixed.Fixed.TheVariants as fixed
+use Rattle.gj_reply.specs.declared.reply.Reply.{Reply}
+use Rattle.gj_reply.specs.declared.reply.Reply.TheVariants as replies
+use Rattle.gj_reply.specs.declared.status.Status.TheVariants as statuses
+use Rattle.gj_session.specs.Answers.{Mark, Answers, AnswersAsk, AnswersBatch, Moves, window_under}
+use Rattle.gj_session.specs.Heard.{heard, lack_of}
+use Rattle.gj_session.specs.Outcomes.{IsReply, is_store}
+use Rattle.gj_session.specs.Reference.{since_of, kind_reply, reply_of}
+use Rattle.gj_session.specs.Runs.{Exchange, stores_in}
+use Rattle.gj_session.specs.declared.outcome.Outcome.{Outcome}
+use Rattle.gj_session.specs.declared.outcome.Outcome.TheVariants.{Says, Stands}
+use Rattle.gj_session.proofs.LackLemmas.{heard_batch}
+
+answers_ask : (conf : Configuration) (seat : ℕ) (a b : Mark) (m : Request) (ask : Ask) (o : Outcome) → heard m ≡ Ok ask
+    → Answers conf true seat a m o b → AnswersAsk conf true seat a (Ok ask) (lack_of m) o b
+unfolding Answers
+answers_ask conf seat a b m ask o e x = subst (λ (r : Result Ask Reply). AnswersAsk conf true seat a r (lack_of m) o b) e x
+
+in_time : (query : Query) (w : Shown) → since_of query ≤ end_of w → reply_of query w ≡ kind_reply query w
+unfolding reply_of
+in_time query w low = ap (λ (t : Bool). if t then replies.Behind (end_of w) else kind_reply query w) (le-ltb (end_of w) (since_of query) low)
+
+said_in_time : (query : Query) (w : Shown) (lack : Fixed) (o : Outcome) → since_of query ≤ end_of w → IsReply (reply_of query w) lack o
+    → (o ≡ Says (kind_reply query w)) ⊎ (o ≡ Stands lack)
+said_in_time query w lack o low (inl e) = inl (e ∙ ap Says (in_time query w low))
+said_in_time query w lack o low (inr e) = inr e
+
+pub whole_query : (conf : Configuration) (seat : ℕ) (a b : Mark) (m : Request) (query : Query) (o : Outcome) → heard m ≡ Ok (asks.Query query)
+    → Answers conf true seat a m o b → since_of query ≤ end_of (window_under conf a.seen)
+    → (o ≡ Says (kind_reply query (window_under conf a.seen))) ⊎ (o ≡ Stands (lack_of m))
+whole_query conf seat a b m query o e x low =
+    let answered = answers_ask conf seat a b m (asks.Query query) o e x in
+    elim answered [
+      | inl said ↦ said_in_time query (window_under conf a.seen) (lack_of m) o low
+          (subst (λ (h : History). IsReply (reply_of query (window_under conf h)) (lack_of m) o) said.0.0 said.1)
+      | inr none ↦ absurd none.0
+    ]
+
+of_batch : (seat : ℕ) (a : Mark) (batch : List Item) (o : Outcome) (b : Mark) → AnswersBatch true seat a batch fixed.NotAccepted o b
+    → length_of a.seen + length batch ≤ 2 ^ 48 → is_store o ≡ false
+    → (o ≡ Says (replies.Posted (length_of a.seen) (length_of b.seen))) ⊎ ((o ≡ Stands fixed.Accepted) ⊎ (o ≡ Stands fixed.NotAccepted))
+of_batch seat a batch (Says (replies.Posted from n)) b x room kept = inl (λ i. Says (replies.Posted ((x.from_is ∙ ap length_of x.meets) i) (x.length_is i)))
+of_batch seat a batch (Says (replies.Full n)) b x room kept = absurd (let at = x.at ∙ ap length_of x.meets in let over = x.over in omega arith)
+of_batch seat a batch (Says replies.Store) b x room kept = absurd cc
+of_batch seat a batch (Says _) b x room kept = absurd x
+of_batch seat a batch (Stands fixed.Accepted) b x room kept = inr (inl refl)
+of_batch seat a batch (Stands fixed.NotAccepted) b x room kept = inr (inr refl)
+of_batch seat a batch (Stands fixed.Memory) b x room kept = inr (inr (ap Stands x.0))
+of_batch seat a batch (Stands fixed.NoLook) b x room kept = absurd x.0
+
+pub whole_batch : (conf : Configuration) (seat : ℕ) (a b : Mark) (m : Request) (batch : List Item) (o : Outcome) → heard m ≡ Ok (asks.Items batch)
+    → Answers conf true seat a m o b → length_of a.seen + length batch ≤ 2 ^ 48 → is_store o ≡ false
+    → (o ≡ Says (replies.Posted (length_of a.seen) (length_of b.seen))) ⊎ ((o ≡ Stands fixed.Accepted) ⊎ (o ≡ Stands fixed.NotAccepted))
+whole_batch conf seat a b m batch o e x room kept =
+    let lack : lack_of m ≡ fixed.NotAccepted = heard_batch m batch e in
+    of_batch seat a batch o b (subst (λ (f : Fixed). AnswersBatch true seat a batch f o b) lack (answers_ask conf seat a b m (asks.Items batch) o e x)) room kept
+
+pub kind_status : (query : Query) (w : Shown) → status_of (kind_reply query w) ≡ statuses.Ok
+kind_status (queries.Walk ask) w = refl
+kind_status (queries.Sub ask) w = refl
+kind_status (queries.Sim ask) w = refl
+kind_status (queries.User id) w = refl
+kind_status (queries.Post id) w = refl
+kind_status queries.Stats w = refl
+
+pub no_stores : (before now : ℕ) (es : List Exchange) → RoseBy (stores_in es) before now → now ≡ before → before < 2 ^ 64 - 1 → stores_in es ≡ 0
+no_stores before now es rose same low = omega (arith, rose, same, low)

@@ -1,0 +1,19 @@
+use Rattle.std.proofs.Common.{◌∙◌, length, arith, refl}
+use Rattle.std.proofs.lemmas.List.{length-drop}
+use Rattle.gj_session.proofs.StreamLemmas.{wrote_none, wrote_piece, wrote_all, failed_part}
+use Rattle.gj_session.proofs.sending.send_over.Goals as goal
+
+pub loop-at-init : goal.loop-at-init
+loop-at-init g c = record { within = omega arith; wrote = wrote_none _; steady = λ s. s; others = refl }
+
+pub loop-at-preserved : goal.loop-at-preserved
+loop-at-preserved g c =
+    let put = c.in_ok-n.ensures in
+    let inv = c.loop-at.invariant in
+    record {
+      within = omega (arith, put.in_range.1, length-drop c.loop-at.at c.args.bytes.now);
+      wrote = wrote_piece _ _ _ c.args.bytes.now c.loop-at.at c.in_ok-n.n inv.within inv.wrote put.told put.bytes put.cause.same put.spent put.in_range.1;
+      steady = λ s. put.steady (inv.steady s);
+      others = put.others ∙ inv.others;
+    }
+
