@@ -19,7 +19,6 @@ use Rattle.gj_reply.specs.declared.fixed.Fixed.{Fixed}
 use Rattle.gj_reply.specs.declared.fixed.Fixed.TheVariants.{Memory}
 use Rattle.gj_reply.specs.declared.reply.Reply.{Reply}
 use Rattle.gj_request.specs.Requests.{asked, has_id}
-use Rattle.gj_request.specs.declared.refusal.Refusal.{Refusal}
 use Rattle.gj_session.specs.Heard.{heard, lack_of, by_body, lack_at, route_reply}
 use Rattle.gj_session.specs.Reference.{reply_of}
 use Rattle.gj_session.proofs.AnswerLemmas.{of_reply}

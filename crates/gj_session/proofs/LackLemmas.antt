@@ -18,7 +18,7 @@ use Rattle.gj_request.specs.Results.{◌>>=◌}
 use Rattle.gj_request.specs.Tables.{Row, Builder, field, filled, object_of, read_by, walk_rows, subgraph_rows, similar_rows}
 use Rattle.gj_request.specs.declared.name.Name.{Name}
 use Rattle.gj_request.specs.declared.name.Name.TheVariants.{Body}
-use Rattle.gj_request.specs.declared.refusal.Refusal.{Refusal}
+use Rattle.gj_request.specs.declared.refusal.Reason.{Reason}
 use Rattle.gj_session.specs.Heard.{heard, lack_of, lack_at, lack_by, by_body, by_route, LacksBy}
 
 -- what is built by a table, whatever its fields say
@@ -41,7 +41,7 @@ of_table P rows build name value built all e =
       | Err why ↦ λ is. cc
     ] e
 
-of_body : (P : Ask → Type 0) (body : _) (of : _ → Result Ask Refusal) (ask : Ask) → ((value : _) → of value ≡ Ok ask → P ask) → parsed body >>= of ≡ Ok ask → P ask
+of_body : (P : Ask → Type 0) (body : _) (of : _ → Result Ask Reason) (ask : Ask) → ((value : _) → of value ≡ Ok ask → P ask) → parsed body >>= of ≡ Ok ask → P ask
 of_body P None of ask each e = cc
 of_body P (Some value) of ask each e = each value e
 
@@ -52,17 +52,17 @@ IsQuery (Query query) = Unit {0}
 
 walk_query : (value : _) (ask : Ask) → walk_of value ≡ Ok ask → IsQuery ask
 unfolding walk_of
-walk_query value ask e = of_table IsQuery walk_rows _ Body value ask (λ seeds steps seed kinds reset top proof hide since. tt) e
+walk_query value ask e = of_table IsQuery walk_rows _ Body value ask (λ seeds steps seed kinds reset top proof hide since not_before. tt) e
 
 sub_query : (value : _) (ask : Ask) → subgraph_of value ≡ Ok ask → IsQuery ask
 unfolding subgraph_of
-sub_query value ask e = of_table IsQuery subgraph_rows _ Body value ask (λ seeds iterations kinds top proof since. tt) e
+sub_query value ask e = of_table IsQuery subgraph_rows _ Body value ask (λ seeds iterations kinds top proof since not_before. tt) e
 
 sim_query : (value : _) (ask : Ask) → similar_of value ≡ Ok ask → IsQuery ask
 unfolding similar_of
-sim_query value ask e = of_table IsQuery similar_rows _ Body value ask (λ post steps seed kinds top since. tt) e
+sim_query value ask e = of_table IsQuery similar_rows _ Body value ask (λ post steps seed kinds top since not_before. tt) e
 
-vertex_query : (id : Result ℕ Refusal) (of : ℕ → query.Query) (ask : Ask) → id >>= (λ n. Ok (Query (of n))) ≡ Ok ask → IsQuery ask
+vertex_query : (id : Result ℕ Reason) (of : ℕ → query.Query) (ask : Ask) → id >>= (λ n. Ok (Query (of n))) ≡ Ok ask → IsQuery ask
 vertex_query (Ok n) of ask e = (let same : Query (of n) ≡ ask = cc in subst IsQuery same tt)
 vertex_query (Err why) of ask e = cc
 
@@ -85,7 +85,7 @@ asked_lacks routes.User id body ask e = query_lacks ask Memory (vertex_query (pa
 asked_lacks routes.Post id body ask e = query_lacks ask Memory (vertex_query (path_id id) queries.Post ask e)
 asked_lacks routes.Stats id body ask e = (let same : Query queries.Stats ≡ ask = cc in query_lacks ask Memory (subst IsQuery same tt))
 
-body_batch : (read : Result Ask Refusal) (lack : Fixed) (batch : List Item) → ((ask : Ask) → read ≡ Ok ask → LacksBy ask lack) → by_body read ≡ Ok (Items batch) → lack ≡ NotAccepted
+body_batch : (read : Result Ask Reason) (lack : Fixed) (batch : List Item) → ((ask : Ask) → read ≡ Ok ask → LacksBy ask lack) → by_body read ≡ Ok (Items batch) → lack ≡ NotAccepted
 body_batch (Ok (Items other)) lack batch each e = each (Items other) refl
 body_batch (Ok (Query query)) lack batch each e = cc
 body_batch (Err why) lack batch each e = cc

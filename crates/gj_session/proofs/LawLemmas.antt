@@ -56,7 +56,7 @@ of_batch : (seat : ℕ) (a : Mark) (batch : List Item) (o : Outcome) (b : Mark) 
     → length_of a.seen + length batch ≤ 2 ^ 48 → is_store o ≡ false
     → (o ≡ Says (replies.Posted (length_of a.seen) (length_of b.seen))) ⊎ ((o ≡ Stands fixed.Accepted) ⊎ (o ≡ Stands fixed.NotAccepted))
 of_batch seat a batch (Says (replies.Posted from n)) b x room kept = inl (λ i. Says (replies.Posted ((x.from_is ∙ ap length_of x.meets) i) (x.length_is i)))
-of_batch seat a batch (Says (replies.Full n)) b x room kept = absurd (let at = x.at ∙ ap length_of x.meets in let over = x.over in omega arith)
+of_batch seat a batch (Says (replies.Full n)) b x room kept = absurd (let at = x.at in let over = x.over in omega arith)
 of_batch seat a batch (Says replies.Store) b x room kept = absurd cc
 of_batch seat a batch (Says _) b x room kept = absurd x
 of_batch seat a batch (Stands fixed.Accepted) b x room kept = inr (inl refl)

@@ -59,9 +59,13 @@ index_ran S at x y (e ∷ es) l =
           let first = one.answers h seat shows in
           let later = rest.runs first.0 seat first.1.1.shows in
           let conf = (at x).viewed in
-          let run : Run (record { capacity = conf.capacity; segments = conf.segments }) true seat (mark_at seat first.0) (mark_at seat later.0) es = rw (← one.same) later.1.0 in
-          (later.0, ((mark_at seat first.0, (answers_message _ true seat (mark_at seat h) e.message e.outcome (mark_at seat first.0) first.1.0, run)),
-              record { shows = later.1.1.shows; keeps = λ kept. later.1.1.keeps (first.1.1.keeps kept) }));
+          let run : Run (record { capacity = conf.capacity; segments = conf.segments }) true seat (mark_at seat first.0) (mark_at seat later.0) es = rw (← one.same) later.1.0 in (
+            later.0,
+            (
+              (mark_at seat first.0, (answers_message _ true seat (mark_at seat h) e.message e.outcome (mark_at seat first.0) first.1.0, run)),
+              record { shows = later.1.1.shows; keeps = λ kept. later.1.1.keeps (first.1.1.keeps kept) },
+            ),
+          );
       stores = rose_more (λ e. is_store e.outcome) e es (at x).faults (at l.0).faults (at y).faults one.stores rest.stores;
     }
 

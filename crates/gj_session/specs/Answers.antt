@@ -62,12 +62,15 @@ pub record PostedAfter (alone : Bool) (seat : ℕ) (a : Mark) (batch : List Item
   pub entered : b.entered ≡ a.entered + length batch
   pub once : entries_of seat b.seen ≡ b.entered
 
--- the history met, of length n, has no room for a batch
+-- the length of the history met, as far as the seat knows it
+abbrev pub HasLength : Bool → History → ℕ → Type 0
+HasLength true h n = n ≡ length_of h
+HasLength false h n = Unit {0}
+
+-- a history of length n has no room for the batch
 pub record NoRoomFor (alone : Bool) (a : Mark) (batch : List Item) (n : ℕ) (b : Mark) : Type 0 where
   pub same : b ≡ a
-  pub met : History
-  pub meets : Meets alone a.seen met
-  pub at : n ≡ length_of met
+  pub at : HasLength alone a.seen n
   pub in_range : n ≤ 2 ^ 48
   pub over : 2 ^ 48 < n + length batch
 

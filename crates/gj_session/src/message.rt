@@ -2,7 +2,7 @@
 ghost use Rattle.std.specs.Prelude.{◌≡◌, is_some, option_map};
 ghost use Rattle.gj_http.specs.Request.{request};
 ghost use Rattle.gj_request.specs.Requests.{asked, has_id, IsAsked};
-ghost use Rattle.gj_session.specs.Heard.{heard, lack_of, refusal_reply, route_reply, lack_at, by_body, LacksBy};
+ghost use Rattle.gj_session.specs.Heard.{heard, lack_of, route_reply, lack_at, by_body, LacksBy};
 ghost use Rattle.gj_session.specs.Outcomes.{IsLack, Uncounted, lack_after};
 
 use crate::answering::Answering;
@@ -18,18 +18,6 @@ use std::alloc::Global;
 pub(crate) struct Answer {
     pub outcome: Outcome,
     pub lack: Fixed,
-}
-
-/// The reply to a body that asks for nothing.
-fn reply_to_refusal(why: Refusal) -> Reply
-    ensures exact { result ≡ refusal_reply why }
-    ensures plain { Uncounted result }
-{
-    match why {
-        Refusal::Json | Refusal::Memory => Reply::BadJson,
-        Refusal::Field(name) => Reply::BadField(name),
-        Refusal::Range(name) => Reply::BadRange(name),
-    }
 }
 
 /// The reply to a path without a route.
@@ -117,6 +105,33 @@ fn refuse_ask<C, A: Answering<C>>(_answerer: &A, _shared: &C, reply: Reply, lack
     }
 }
 
+/// Answers a message whose body asks for nothing, or was not read for want of memory.
+fn answer_refusal<C, A: Answering<C>>(
+    _answerer: &A,
+    _shared: &C,
+    why: Refusal,
+    lack: Fixed,
+) -> Answer
+    requires lack { IsLack lack }
+    ensures answers { (read : Result Ask Reason) → Refuses read why → A.answers _answerer.now (by_body read) lack result.outcome _answerer.now }
+    ensures lacks { (read : Result Ask Reason) → Refuses read why → A.answers _answerer.now (by_body read) lack (Outcome.Stands result.lack) _answerer.now }
+{
+    match why {
+        Refusal::Memory => Answer {
+            outcome: Outcome::Stands(lack),
+            lack,
+        },
+        Refusal::Json => refuse_ask(_answerer, _shared, Reply::BadJson, lack),
+        Refusal::Field(name) => refuse_ask(_answerer, _shared, Reply::BadField(name), lack),
+        Refusal::Range(name) => refuse_ask(_answerer, _shared, Reply::BadRange(name), lack),
+    }
+}
+
+ghost use Rattle.std.specs.Prelude.{Result};
+ghost use Rattle.gj_base.specs.declared.ask.Ask.{Ask};
+ghost use Rattle.gj_request.specs.declared.refusal.Reason.{Reason};
+ghost use Rattle.gj_request.specs.Results.{Refuses};
+
 /// Answers a message that has a route.
 fn answer_found<C, A: Answering<C>>(
     answerer: &mut A,
@@ -133,11 +148,7 @@ fn answer_found<C, A: Answering<C>>(
     let lack = lack_for(route);
     match read_request(alloc, route, id, body) {
         Ok(ask) => answer_ask(answerer, shared, alloc, ask, lack),
-        Err(Refusal::Memory) => Answer {
-            outcome: Outcome::Stands(lack),
-            lack,
-        },
-        Err(why) => refuse_ask(answerer, shared, reply_to_refusal(why), lack),
+        Err(why) => answer_refusal(answerer, shared, why, lack),
     }
 }
 

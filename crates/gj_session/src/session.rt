@@ -13,9 +13,7 @@ use crate::outcome::{End, Outcome};
 use crate::sending::send_answer;
 use crate::wire::Wire;
 use gj_base::Failed;
-use gj_http::{
-    Framer, Message, Refused, Routes, Step, beginnings, loop_keeps, one_cut, one_front,
-};
+use gj_http::{Framer, Message, Refused, Routes, Step, beginnings, loop_keeps, one_cut, one_front};
 use gj_reply::{Fixed, Reply};
 use std::alloc::Global;
 

@@ -16,4 +16,3 @@ loop-at-preserved g c =
       steady = λ s. put.steady (inv.steady s);
       others = put.others ∙ inv.others;
     }
-
