@@ -1,14 +1,10 @@
 -- What is answered to an ask.
-use Rattle.std.proofs.Common.{◌≡◌, ◌⊎◌, inl, inr, ℕ, List, [], ◌∷◌, Option, Some, None, is_some, Result, Ok, Err, if◌then◌else◌, codes, refl, sym, ap, subst, Bor, Bool, true, false}
+use Rattle.std.proofs.Common.{◌≡◌, ℕ, List, [], ◌∷◌, Option, Some, None, is_some, Result, Ok, Err, if◌then◌else◌, codes, refl, subst, Bor, Bool, true, false}
 use Rattle.gj_base.specs.declared.ask.Ask.{Ask}
-use Rattle.gj_base.specs.declared.ask.Ask.TheVariants.{Items}
 use Rattle.gj_base.specs.declared.ask.Query.{Query}
 use Rattle.gj_base.specs.declared.ask.Route.{Route}
 use Rattle.gj_base.specs.declared.ask.Route.TheVariants as routes
-use Rattle.gj_base.specs.declared.history.History.{History}
 use Rattle.gj_base.specs.declared.history.Shown.{Shown}
-use Rattle.gj_base.specs.declared.item.Item.{Item}
-use Rattle.gj_base.specs.Configuration.{Configuration}
 use Rattle.gj_http.specs.Request.{Request}
 use Rattle.gj_http.specs.Routes.{found_of, Routed, at_end, at_part, is_part, first_of, route_of, after, under_method, is_method, is_get}
 use Rattle.gj_http.specs.declared.message.Method.{Method}
@@ -23,8 +19,6 @@ use Rattle.gj_session.specs.Heard.{heard, lack_of, by_body, lack_at, route_reply
 use Rattle.gj_session.specs.Reference.{reply_of}
 use Rattle.gj_session.proofs.AnswerLemmas.{of_reply}
 use Rattle.gj_session.specs.Outcomes.{Uncounted}
-use Rattle.gj_session.specs.declared.outcome.Outcome.{Outcome}
-use Rattle.gj_session.specs.declared.outcome.Outcome.TheVariants.{Says}
 
 -- no count of a seat is about a reference answer
 pub plain_reply : (query : Query) (w : Shown) → Uncounted (reply_of query w)

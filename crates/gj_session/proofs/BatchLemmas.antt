@@ -1,6 +1,6 @@
 -- What is answered to a batch that an index takes.
-use Rattle.std.proofs.Common.{◌≡◌, ℕ, ◌+◌, ◌-◌, ◌^◌, ◌<◌, ◌≤◌, ◌∙◌, true, List, length, Ok, refl, ap, sym, subst, arith}
-use Rattle.gj_base.specs.History.{IsWindow, StandsFor, more, end_of, conf_of, extend, entries_by}
+use Rattle.std.proofs.Common.{◌≡◌, ℕ, ◌+◌, ◌^◌, ◌<◌, ◌≤◌, ◌∙◌, true, List, length, refl, ap, sym, subst, arith}
+use Rattle.gj_base.specs.History.{IsWindow, StandsFor, more, end_of, extend, entries_by}
 use Rattle.gj_base.specs.declared.history.History.{History}
 use Rattle.gj_base.specs.declared.history.Shown.{Shown}
 use Rattle.gj_base.specs.declared.item.Item.{Item}

@@ -1,10 +1,10 @@
 -- What the end of a session says of its faults and its reads.
-use Rattle.std.proofs.Common.{◌≡◌, ◌≢◌, ◌⊎◌, inl, inr, ℕ, ◌+◌, ◌-◌, ◌^◌, ◌<◌, ◌≤◌, ◌∙◌, min, Bool, IsTrue, List, [], ◌∷◌, ◌++◌, length, take, refl, ap, sym, subst, arith, length-append, length-take}
-use Rattle.gj_base.specs.Causes.{one_more, RoseBy, Rose}
+use Rattle.std.proofs.Common.{◌≡◌, ◌≢◌, inl, inr, ℕ, ◌+◌, ◌<◌, ◌≤◌, IsTrue, List, ◌++◌, length, take, refl, ap, subst, arith, length-append, length-take}
+use Rattle.gj_base.specs.Causes.{RoseBy, Rose}
 use Rattle.gj_session.specs.Runs.{Exchange, transcript, exchange_bytes}
 use Rattle.gj_session.specs.Outcomes.{outcome_bytes}
-use Rattle.gj_session.specs.Sessions.{Ends, Ended, IsTurned, FailedReads, Replayed}
-use Rattle.gj_session.specs.Streams.{Incoming, Outgoing, FailedOnce, Wrote, WrotePart}
+use Rattle.gj_session.specs.Sessions.{Ends, IsTurned, FailedReads, Replayed}
+use Rattle.gj_session.specs.Streams.{Incoming, Outgoing, Wrote, WrotePart}
 use Rattle.gj_session.specs.declared.outcome.End.{End}
 use Rattle.gj_session.specs.declared.outcome.End.TheVariants.{Finished, Closed, Truncated, Stopped, ReadFault, WriteFault, Turns}
 

@@ -1,10 +1,10 @@
 -- The end of a session as a function of its whole input.
-use Rattle.std.proofs.Common.{◌≡◌, ◌⊎◌, inl, inr, ℕ, ◌+◌, ◌==◌, ◌∙◌, ◌||◌, Bool, true, false, IsTrue, List, [], ◌∷◌, ◌++◌, length, map, Option, Some, None, refl, ap, sym, subst, append-nil, eq-eqb}
+use Rattle.std.proofs.Common.{◌≡◌, ℕ, ◌==◌, ◌∙◌, ◌||◌, Bool, true, false, IsTrue, List, [], ◌∷◌, ◌++◌, length, Option, Some, None, refl, ap, sym, subst, append-nil, eq-eqb}
 use Rattle.std.specs.List.{list_any}
 use Rattle.std.proofs.lemmas.Bool.{ne_eqb}
 use Rattle.std.proofs.lemmas.List.Folds.{list_any-append}
 use Rattle.gj_http.specs.Calls.{InFront}
-use Rattle.gj_http.specs.Cut.{IsRefused, NeedsMore, Cuts, empty_lines}
+use Rattle.gj_http.specs.Cut.{NeedsMore, Cuts, empty_lines}
 use Rattle.gj_http.specs.Request.{Request}
 use Rattle.gj_http.specs.declared.message.Refused.{Refused}
 use Rattle.gj_session.specs.Runs.{Exchange, messages_of}

@@ -1,5 +1,5 @@
 -- What a run alone owes to its messages.
-use Rattle.std.proofs.Common.{◌≡◌, ◌⊎◌, inl, inr, ℕ, ◌+◌, ◌-◌, ◌^◌, ◌<◌, ◌≤◌, ◌∙◌, min, Bool, true, false, List, length, Result, Ok, Err, if◌then◌else◌, nat_lt, refl, sym, ap, subst, arith}
+use Rattle.std.proofs.Common.{◌≡◌, ◌⊎◌, inl, inr, ℕ, ◌+◌, ◌-◌, ◌^◌, ◌<◌, ◌≤◌, ◌∙◌, Bool, true, false, List, length, Result, Ok, if◌then◌else◌, refl, ap, subst, arith}
 use Rattle.std.proofs.lemmas.Bool.{le-ltb}
 use Rattle.gj_base.specs.Causes.{RoseBy}
 use Rattle.gj_base.specs.Configuration.{Configuration}
@@ -18,7 +18,7 @@ use Rattle.gj_reply.specs.declared.fixed.Fixed.TheVariants as fixed
 use Rattle.gj_reply.specs.declared.reply.Reply.{Reply}
 use Rattle.gj_reply.specs.declared.reply.Reply.TheVariants as replies
 use Rattle.gj_reply.specs.declared.status.Status.TheVariants as statuses
-use Rattle.gj_session.specs.Answers.{Mark, Answers, AnswersAsk, AnswersBatch, Moves, window_under}
+use Rattle.gj_session.specs.Answers.{Mark, Answers, AnswersAsk, AnswersBatch, window_under}
 use Rattle.gj_session.specs.Heard.{heard, lack_of}
 use Rattle.gj_session.specs.Outcomes.{IsReply, is_store}
 use Rattle.gj_session.specs.Reference.{since_of, kind_reply, reply_of}

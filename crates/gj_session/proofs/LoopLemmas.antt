@@ -1,14 +1,12 @@
 -- The turns of a session, and the whole of it.
-use Rattle.std.proofs.Common.{◌≡◌, ◌≢◌, ◌⊎◌, inl, inr, ℕ, ◌+◌, ◌-◌, ◌^◌, ◌<◌, ◌≤◌, ◌∙◌, min, Bool, IsTrue, List, [], ◌∷◌, ◌++◌, length, refl, ap, sym, subst, arith, append-nil, length-append}
-use Rattle.gj_base.specs.Causes.{one_more, RoseBy, Rose}
+use Rattle.std.proofs.Common.{◌≡◌, ◌≢◌, ℕ, ◌+◌, ◌<◌, ◌∙◌, IsTrue, List, [], ◌∷◌, ◌++◌, length, refl, ap, sym, subst, arith, append-nil, length-append}
 use Rattle.gj_base.specs.Stream.{Reading}
 use Rattle.gj_http.specs.Cut.{NeedsMore}
 use Rattle.gj_http.specs.Request.{Request}
-use Rattle.gj_http.specs.declared.message.Refused.{Refused}
 use Rattle.gj_session.specs.Loop.{GoesOn, InSession, TookPiece, TookNone, EndsInput, IsByMessages}
-use Rattle.gj_session.specs.Runs.{Exchange, Leads, transcript}
-use Rattle.gj_session.specs.Sessions.{IsOpen, Ends, Ended, IsAll, IsTurned, FailedReads, Replayed, WroteRefusal, CutAnswer, CutRefusal}
-use Rattle.gj_session.specs.Streams.{Incoming, Outgoing, FailedOnce, TookAll, Took, Wrote, WrotePart}
+use Rattle.gj_session.specs.Runs.{Exchange, Leads}
+use Rattle.gj_session.specs.Sessions.{IsOpen, Ends, Ended, IsAll, IsTurned, FailedReads, Replayed}
+use Rattle.gj_session.specs.Streams.{Incoming, Outgoing, FailedOnce, TookAll, Took}
 use Rattle.gj_session.specs.declared.outcome.Outcome.{Outcome}
 use Rattle.gj_session.specs.declared.outcome.End.{End}
 use Rattle.gj_session.specs.declared.outcome.End.TheVariants.{Finished, Closed, Truncated, Stopped, ReadFault, WriteFault, Turns}

@@ -1,5 +1,5 @@
 -- What a run says of an index that answers alone.
-use Rattle.std.proofs.Common.{◌≡◌, ℕ, ◌+◌, ◌-◌, ◌^◌, ◌<◌, ◌≤◌, ◌==◌, ◌∙◌, min, Bool, true, false, List, [], ◌∷◌, ◌++◌, length, map, count_by, cond, if◌then◌else◌, Result, refl, ap, sym, subst, arith, length-append, eq-eqb}
+use Rattle.std.proofs.Common.{◌≡◌, ℕ, ◌+◌, ◌==◌, ◌∙◌, Bool, true, List, [], ◌∷◌, length, count_by, cond, Result, refl, ap, sym, subst, arith, length-append, eq-eqb}
 use Rattle.std.proofs.lemmas.List.{length-map}
 use Rattle.std.proofs.lemmas.List.Sums.{sum_by-append}
 use Rattle.gj_base.specs.Causes.{RoseBy}

@@ -1,7 +1,7 @@
 -- The laws of what answers messages: a refusal and want of memory leave it where it was, and a post that found no memory
 -- for its text is answered by a fixed reply.
-use Rattle.std.specs.Prelude.{◌≡◌, ◌⊎◌, ℕ, ◌+◌, ◌≤◌, Bool, true, false, List, Result, Ok, Err, refl}
-use Rattle.std.proofs.Common.{inl, inr, sym, subst, arith, append-nil, append_assoc, ap, ◌∙◌, ◌++◌, [], if◌then◌else◌, min, ◌-◌, ◌^◌}
+use Rattle.std.specs.Prelude.{◌≡◌, ℕ, Bool, true, false, List, Ok, Err, refl}
+use Rattle.std.proofs.Common.{inl, inr, sym, subst, arith, append-nil, append_assoc, ap, ◌∙◌, ◌++◌, []}
 use Rattle.gj_base.specs.Causes.{RoseBy}
 use Rattle.gj_base.specs.Configuration.{Configuration}
 use Rattle.gj_base.specs.History.{Begins, extend, entries_by}

@@ -1,5 +1,5 @@
 -- What an index answers, alone: to one ask, and over a run.
-use Rattle.std.specs.Prelude.{◌≡◌, ℕ, Bool, true, false, if◌then◌else◌, List, Result}
+use Rattle.std.specs.Prelude.{◌≡◌, ℕ, Bool, true, if◌then◌else◌, List, Result}
 use Rattle.gj_base.specs.Causes.{RoseBy}
 use Rattle.gj_base.specs.History.{StandsFor, conf_of}
 use Rattle.gj_base.specs.declared.ask.Ask.{Ask}
@@ -7,7 +7,7 @@ use Rattle.gj_base.specs.declared.history.History.{History}
 use Rattle.gj_base.specs.declared.history.Shown.{Shown}
 use Rattle.gj_reply.specs.declared.fixed.Fixed.{Fixed}
 use Rattle.gj_reply.specs.declared.reply.Reply.{Reply}
-use Rattle.gj_session.specs.Answers.{Mark, mark_at, AnswersAsk}
+use Rattle.gj_session.specs.Answers.{mark_at, AnswersAsk}
 use Rattle.gj_session.specs.Outcomes.{is_store}
 use Rattle.gj_session.specs.Runs.{Exchange, Run, stores_in}
 use Rattle.gj_session.specs.declared.outcome.Outcome.{Outcome}

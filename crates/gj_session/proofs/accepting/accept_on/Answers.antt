@@ -1,7 +1,6 @@
-use Rattle.std.proofs.Common.{◌≡◌, refl, rules, arith}
+use Rattle.std.proofs.Common.{refl, arith}
 use Rattle.gj_base.specs.History.{extend, entries_by}
 use Rattle.gj_session.proofs.BatchLemmas.{posted, full, shows_more, shows_same}
-use Rattle.gj_session.specs.AnsweringLaws.{moves_none}
 use Rattle.gj_session.proofs.accepting.accept_on.Goals as goal
 
 pub returns-in-Ok : goal.returns-in-Ok

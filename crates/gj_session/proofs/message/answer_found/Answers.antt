@@ -1,4 +1,3 @@
-use Rattle.std.proofs.Common.{◌∙◌}
 use Rattle.gj_session.proofs.LackLemmas.{asked_lacks}
 use Rattle.gj_session.proofs.message.answer_found.Goals as goal
 

@@ -1,6 +1,6 @@
 use Rattle.std.proofs.Common.{◌∙◌}
 use Rattle.gj_http.specs.Request.{request}
-use Rattle.gj_session.specs.declared.outcome.Outcome.TheVariants.{Says, Stands}
+use Rattle.gj_session.specs.declared.outcome.Outcome.TheVariants.{Stands}
 use Rattle.gj_session.proofs.AskLemmas.{of_found, of_lost, found_id, is_some-copied}
 use Rattle.gj_session.proofs.message.answer_message.Goals as goal
 

@@ -1,4 +1,3 @@
-use Rattle.std.proofs.Common.{◌≡◌}
 use Rattle.gj_session.specs.IndexRuns.{index_at}
 use Rattle.gj_session.proofs.EndLemmas.{come, gone}
 use Rattle.gj_session.proofs.LoopLemmas.{replayed_as}

@@ -1,4 +1,4 @@
-use Rattle.std.proofs.Common.{inl, inr, refl, sym, ◌∙◌}
+use Rattle.std.proofs.Common.{inl, inr, refl, sym}
 use Rattle.gj_session.specs.declared.outcome.Outcome.TheVariants.{Says, Stands}
 use Rattle.gj_session.proofs.sending.send_answer.Goals as goal
 

@@ -1,4 +1,4 @@
-use Rattle.std.proofs.Common.{◌∙◌, arith, refl}
+use Rattle.std.proofs.Common.{◌∙◌, refl}
 use Rattle.gj_http.specs.Request.{request}
 use Rattle.gj_session.proofs.GoingLemmas.{goes_none, goes_goes, goes_ended, one_goes, one_ended, refused_ended, refusal_by_messages, after_by_messages}
 use Rattle.gj_session.proofs.session.drain.Goals as goal

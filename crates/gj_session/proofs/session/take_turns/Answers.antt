@@ -1,6 +1,6 @@
-use Rattle.std.proofs.Common.{◌≡◌, ◌∙◌, [], refl, ap, arith}
+use Rattle.std.proofs.Common.{◌≡◌, [], ap, arith}
 use Rattle.gj_http.specs.Held.{Held}
-use Rattle.gj_session.proofs.LoopLemmas.{session_none, session_more, replayed_messages, replayed_fault, replayed_turns, replayed_input, by_messages_read, input_read}
+use Rattle.gj_session.proofs.LoopLemmas.{session_none, session_more, replayed_messages, replayed_fault, replayed_turns, replayed_input}
 use Rattle.gj_session.proofs.session.take_turns.Goals as goal
 
 pub turns-init : goal.turns-init

@@ -1,4 +1,4 @@
-use Rattle.std.proofs.Common.{◌≡◌, true, refl, inl, inr, ap, sym, ◌∙◌, arith, subst}
+use Rattle.std.proofs.Common.{◌≡◌, true, refl, inl, ap, ◌∙◌}
 use Rattle.gj_session.specs.declared.outcome.Outcome.TheVariants.{Says}
 use Rattle.gj_session.specs.AnsweringLaws.{uncounts_reply, rose_none, moves_none}
 use Rattle.gj_session.specs.Outcomes.{is_store}
