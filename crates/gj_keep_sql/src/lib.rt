@@ -11,7 +11,11 @@ mod numbers;
 mod reading;
 mod sql_keeper;
 mod sql_keepers;
+#[cfg(test)]
+mod stop_tests;
 mod tables;
+#[cfg(test)]
+mod tests;
 
 pub use sql_keeper::SqlKeeper;
 pub use sql_keepers::SqlKeepers;

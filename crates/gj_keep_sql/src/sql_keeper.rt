@@ -51,6 +51,17 @@ impl<F: Alter + Drop> SqlKeeper<F> {
         })
     }
 
+    /// The connection, for a test that looks at what is left.
+    #[cfg(test)]
+    pub(crate) fn into_connection(self) -> Connection<F> {
+        let SqlKeeper {
+            connection,
+            alloc: _,
+            faults: _,
+        } = self;
+        connection
+    }
+
     /// Has its count go on from this one.
     pub(crate) fn go_on_from(&mut self, faults: u64)
         ensures { self.new ≡ faults }

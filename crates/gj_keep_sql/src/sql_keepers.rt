@@ -9,6 +9,7 @@ use std::marker::Model;
 
 /// Hands out the keeper over the file at a path, which is made where it isn't there. Contracts see whether its keeper is
 /// at home, and the counts of faults.
+#[derive(Drop)]
 pub struct SqlKeepers<'rt> {
     rt: &'rt HostRuntime,
     home: bool,
