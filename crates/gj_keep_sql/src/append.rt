@@ -1,0 +1,64 @@
+//! What is written to a store.
+ghost use Rattle.std.specs.Prelude.{◌+◌, ◌^◌, ◌<◌, ◌≤◌, length};
+
+use crate::answers::IN_TRANSACTION;
+use crate::numbers::signed;
+use gj_base::{Item, KeptConf};
+use sqlite::{Alter, Connection, Error, Statement, Transaction, params};
+
+const SET_CONF: &str = "INSERT INTO conf (one, version, capacity, segments) VALUES (1, ?1, ?2, ?3)";
+
+/// A row of the second version.
+pub const INSERT: &str =
+    "INSERT INTO kept2 (place, usr, post, kind, moment) VALUES (?1, ?2, ?3, ?4, ?5)";
+
+const TRIM: &str = "DELETE FROM kept2 WHERE place < ?1";
+
+/// Writes the configuration.
+pub fn write_conf<F: Alter>(connection: &mut Connection<F>, conf: KeptConf) -> Result<(), Error> {
+    let version = signed(conf.version, 0)?;
+    let capacity = signed(conf.capacity, 1)?;
+    let segments = signed(conf.segments, 2)?;
+    connection.execute(SET_CONF, params![version, capacity, segments])?;
+    Ok(())
+}
+
+fn insert_item<F: Alter>(
+    batch: &mut Transaction<'_, F>,
+    insert: &Statement,
+    place: u64,
+    item: Item,
+) -> Result<(), Error>
+    requires { place < 2 ^ 48 }
+{
+    let (user, post, moment) = (item.user as i64, item.post as i64, item.at as i64);
+    let kind = i64::from(item.kind.number());
+    batch.execute_prepared(insert, params![place as i64, user, post, kind, moment])?;
+    Ok(())
+}
+
+/// Writes the items at the places from `from` on, in one transaction.
+pub fn append_rows<F: Alter>(
+    connection: &mut Connection<F>,
+    from: u64,
+    items: &[Item],
+) -> Result<(), Error>
+    requires { from + length items.now ≤ 2 ^ 48 }
+{
+    if !connection.is_autocommit() {
+        return Err(IN_TRANSACTION);
+    }
+    let mut batch = connection.transaction();
+    let insert = batch.prepare(INSERT)?;
+    for i in 0..items.len() {
+        insert_item(&mut batch, &insert, from + i as u64, items[i])?;
+    }
+    batch.commit()
+}
+
+/// Drops the rows below the place.
+pub fn drop_below<F: Alter>(connection: &mut Connection<F>, below: u64) -> Result<(), Error> {
+    let below = signed(below, 0)?;
+    connection.execute(TRIM, params![below])?;
+    Ok(())
+}

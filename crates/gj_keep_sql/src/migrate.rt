@@ -1,0 +1,85 @@
+//! A store of the first version, brought to the second.
+
+use crate::answers::IN_TRANSACTION;
+use crate::append::INSERT;
+use crate::numbers::{number_at, unsigned_at};
+use crate::reading::CONF;
+use gj_base::FIRST_VERSION;
+use sqlite::{Alter, Connection, Error, Row, Transaction, params};
+use std::alloc::Global;
+
+const FIRST_ROWS: &str = "SELECT place, usr, post, kind FROM kept ORDER BY place";
+
+const EMPTY: &str = "DELETE FROM kept";
+
+const SECOND_VERSION: &str = "UPDATE conf SET version = 2 WHERE one = 1";
+
+/// A row of the first version.
+#[derive(Clone, Copy)]
+struct FirstRow {
+    place: i64,
+    user: i64,
+    post: i64,
+    kind: i64,
+}
+
+fn first_row(row: &Row) -> Result<FirstRow, Error> {
+    Ok(FirstRow {
+        place: unsigned_at(row, 0)?,
+        user: unsigned_at(row, 1)?,
+        post: unsigned_at(row, 2)?,
+        kind: unsigned_at(row, 3)?,
+    })
+}
+
+fn is_first_version<F: Alter>(store: &mut Transaction<'_, F>) -> Result<bool, Error> {
+    match store.query_row(CONF, &[]) {
+        Ok(row) => Ok(number_at(&row, 0)? == FIRST_VERSION),
+        Err(Error::QueryReturnedNoRows) => Ok(false),
+        Err(error) => Err(error),
+    }
+}
+
+fn first_rows<F: Alter>(
+    store: &mut Transaction<'_, F>,
+    alloc: Global,
+) -> Result<Vec<FirstRow>, Error> {
+    let mut kept = Vec::new(alloc);
+    let mut rows = store.query(FIRST_ROWS, &[])?;
+    for _ in 0..u64::MAX {
+        let Some(row) = rows.next()? else {
+            break;
+        };
+        kept.push(first_row(row)?)?;
+    }
+    Ok(kept)
+}
+
+/// Writes the rows under the second version, with the moment 0.
+fn write_rows<F: Alter>(store: &mut Transaction<'_, F>, rows: &[FirstRow]) -> Result<(), Error> {
+    let insert = store.prepare(INSERT)?;
+    for row in rows {
+        store.execute_prepared(
+            &insert,
+            params![row.place, row.user, row.post, row.kind, 0i64],
+        )?;
+    }
+    Ok(())
+}
+
+/// Where the version is the first, writes its rows under the second, in one transaction. A row with a negative number
+/// is refused.
+pub fn migrate_rows<F: Alter>(connection: &mut Connection<F>, alloc: Global) -> Result<(), Error> {
+    if !connection.is_autocommit() {
+        return Err(IN_TRANSACTION);
+    }
+    let mut store = connection.transaction();
+    if !is_first_version(&mut store)? {
+        return Ok(());
+    }
+    let rows = first_rows(&mut store, alloc)?;
+    write_rows(&mut store, &rows)?;
+    store.execute(EMPTY, &[])?;
+    store.execute(SECOND_VERSION, &[])?;
+    store.commit()
+}

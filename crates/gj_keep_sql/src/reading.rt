@@ -1,0 +1,54 @@
+//! What a store holds, read.
+
+use crate::numbers::number_at;
+use gj_base::{KeptConf, KeptItem};
+use sqlite::{Alter, Connection, Error, Row};
+use std::alloc::Global;
+
+/// The configuration.
+pub const CONF: &str = "SELECT version, capacity, segments FROM conf WHERE one = 1";
+
+const ROWS: &str = "SELECT place, usr, post, kind, moment FROM kept2 ORDER BY place";
+
+fn conf_of(row: &Row) -> Result<KeptConf, Error> {
+    Ok(KeptConf {
+        version: number_at(row, 0)?,
+        capacity: number_at(row, 1)?,
+        segments: number_at(row, 2)?,
+    })
+}
+
+/// The configuration, where one is kept.
+pub fn kept_conf<F: Alter>(connection: &mut Connection<F>) -> Result<Option<KeptConf>, Error> {
+    match connection.query_row(CONF, &[]) {
+        Ok(row) => Ok(Some(conf_of(&row)?)),
+        Err(Error::QueryReturnedNoRows) => Ok(None),
+        Err(error) => Err(error),
+    }
+}
+
+fn kept_item(row: &Row) -> Result<KeptItem, Error> {
+    Ok(KeptItem {
+        place: number_at(row, 0)?,
+        user: number_at(row, 1)?,
+        post: number_at(row, 2)?,
+        kind: number_at(row, 3)?,
+        moment: number_at(row, 4)?,
+    })
+}
+
+/// All rows of the second version, by their places. They are read one at a time.
+pub fn kept_rows<F: Alter>(
+    connection: &mut Connection<F>,
+    alloc: Global,
+) -> Result<Vec<KeptItem>, Error> {
+    let mut kept = Vec::new(alloc);
+    let mut rows = connection.query(ROWS, &[])?;
+    for _ in 0..u64::MAX {
+        let Some(row) = rows.next()? else {
+            break;
+        };
+        kept.push(kept_item(row)?)?;
+    }
+    Ok(kept)
+}

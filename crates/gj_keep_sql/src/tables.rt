@@ -1,0 +1,42 @@
+//! The tables of a store, each made where it isn't there.
+
+use crate::answers::IN_TRANSACTION;
+use sqlite::{Alter, Connection, Error, Transaction, params};
+
+/// The version of the layout and the configuration, in one row.
+const CONF: &str =
+    "CREATE TABLE conf (one INTEGER PRIMARY KEY CHECK (one = 1), version INTEGER NOT NULL, capacity INTEGER NOT NULL, segments INTEGER NOT NULL) STRICT";
+
+/// The rows of the first version. A later one leaves it empty.
+const KEPT: &str =
+    "CREATE TABLE kept (place INTEGER PRIMARY KEY, usr INTEGER NOT NULL, post INTEGER NOT NULL, kind INTEGER NOT NULL) STRICT";
+
+/// The rows of the second version.
+const KEPT2: &str =
+    "CREATE TABLE kept2 (place INTEGER PRIMARY KEY, usr INTEGER NOT NULL, post INTEGER NOT NULL, kind INTEGER NOT NULL, moment INTEGER NOT NULL) STRICT";
+
+const IS_THERE: &str = "SELECT count(*) FROM sqlite_schema WHERE type = 'table' AND name = ?1";
+
+fn make_table<F: Alter>(
+    store: &mut Transaction<'_, F>,
+    name: &str,
+    statement: &str,
+) -> Result<(), Error> {
+    let there: i64 = store.query_row(IS_THERE, params![name])?.get(0)?;
+    if there == 0 {
+        store.execute(statement, &[])?;
+    }
+    Ok(())
+}
+
+/// Makes the three tables, in one transaction.
+pub fn make_tables<F: Alter>(connection: &mut Connection<F>) -> Result<(), Error> {
+    if !connection.is_autocommit() {
+        return Err(IN_TRANSACTION);
+    }
+    let mut store = connection.transaction();
+    make_table(&mut store, "conf", CONF)?;
+    make_table(&mut store, "kept", KEPT)?;
+    make_table(&mut store, "kept2", KEPT2)?;
+    store.commit()
+}
