@@ -1,5 +1,5 @@
 //! An index of one book and one graph.
-ghost use Rattle.std.specs.Prelude.{◌≡◌, ◌+◌, ◌^◌, ◌≤◌, ℕ, length, slice_index_or, None, IfOk, IfErr, OnOk, IsTrue, MatchResult};
+ghost use Rattle.std.specs.Prelude.{◌≡◌, ◌+◌, ◌/◌, ◌^◌, ◌≤◌, ℕ, nat_lt, length, slice_index_or, None, IfOk, IfErr, OnOk, IsTrue, MatchResult};
 ghost use Rattle.gj_base.specs.History.{end_of, conf_of, more, empty_history};
 
 use crate::book::Book;
@@ -87,7 +87,9 @@ fn only<W: Drop>(graphs: Vec<W>) -> W
 
 /// Whether a batch filled a segment: a multiple of the capacity lies above its first place, and not above the place
 /// after its last.
-fn fills(conf: Conf, receipt: Receipt) -> bool {
+fn fills(conf: Conf, receipt: Receipt) -> bool
+    ensures { result ≡ nat_lt (receipt.from / conf.capacity) (receipt.to / conf.capacity) }
+{
     let capacity = u64::from(conf.capacity());
     receipt.from / capacity < receipt.to / capacity
 }

@@ -1,4 +1,5 @@
-ghost use Rattle.std.specs.Prelude.{◌+◌, ◌^◌, ◌<◌};
+ghost use Rattle.std.specs.Prelude.{◌+◌, ◌^◌, ◌<◌, IsTrue};
+ghost use Rattle.gj_keep.specs.MemoryHomes.{is_home};
 
 use super::*;
 use gj_base::{
@@ -163,67 +164,66 @@ fn each_call_that_fails_costs_the_opening_or_one_post(rt: HostRuntime) -> Result
     Ok(())
 }
 
-/// Under two segments of 16.
+/// The first bad row, under two segments of 16.
+fn bad_row_of(rt: &impl Abort, alloc: Global, rows: Vec<KeptItem>) -> Option<u64> {
+    match open(
+        rt,
+        alloc,
+        2,
+        MemoryKeeper::of(kept(2, 16, 2), rows, Vec::new(alloc)),
+    ) {
+        Ok(_) => None,
+        Err(refused) => match refused.why {
+            OpenError::KeptRow { row } => Some(row),
+            _ => panic!(rt; "no row is bad"),
+        },
+    }
+}
+
 #[test]
-fn the_first_bad_row_is_named(rt: HostRuntime) -> Result<(), Fail> {
+fn rows_begin_at_an_aligned_place_that_the_window_has_left(rt: HostRuntime) -> Result<(), Fail> {
     let alloc = rt.alloc();
-    let end = HISTORY_END;
     let runs = [
-        (end - 16, 20, 16),
-        (end - 16, 16, 0),
-        (end, 17, 0),
-        (u64::MAX - 31, 17, 0),
-        (8, 40, 0),
-        (16, 16, 0),
+        (0, 0, None),
+        (0, 1, None),
+        (16, 17, None),
+        (16, 16, Some(0)),
+        (8, 40, Some(0)),
+        (HISTORY_END - 16, 20, Some(16)),
+        (HISTORY_END, 17, Some(0)),
+        (u64::MAX - 31, 17, Some(0)),
     ];
     for (first, count, bad) in runs {
-        let keeper = MemoryKeeper::of(
-            kept(2, 16, 2),
-            rows_at(alloc, first, count)?,
-            Vec::new(alloc),
-        );
-        let (why, _) = refused(&rt, alloc, 2, keeper);
-        assert_eq!(rt; why, OpenError::KeptRow { row: bad }, "from {first}");
+        let rows = rows_at(alloc, first, count)?;
+        assert_eq!(rt; bad_row_of(&rt, alloc, rows), bad, "from {first}");
     }
+    Ok(())
+}
+
+#[test]
+fn a_row_is_bad_out_of_its_place_or_range(rt: HostRuntime) -> Result<(), Fail> {
+    let alloc = rt.alloc();
+    let over = MAX_ID + 1;
     let rows = [
         KeptItem { place: 4, ..row(3) },
         KeptItem {
-            user: MAX_ID + 1,
+            user: over,
             ..row(3)
         },
         KeptItem {
-            post: MAX_ID + 1,
+            post: over,
             ..row(3)
         },
         KeptItem { kind: 5, ..row(3) },
         KeptItem {
-            moment: MAX_ID + 1,
+            moment: over,
             ..row(3)
         },
     ];
     for bad in rows {
         let mut rows = rows_at(alloc, 0, 3)?;
         rows.push(bad)?;
-        rows.push(row(4))?;
-        let (why, _) = refused(
-            &rt,
-            alloc,
-            2,
-            MemoryKeeper::of(kept(2, 16, 2), rows, Vec::new(alloc)),
-        );
-        assert_eq!(rt; why, OpenError::KeptRow { row: 3 }, "{bad:?}");
-    }
-    for (first, count, base) in [(16, 17, 16), (0, 0, 0), (0, 33, 16)] {
-        let keeper = MemoryKeeper::of(
-            kept(2, 16, 2),
-            rows_at(alloc, first, count)?,
-            Vec::new(alloc),
-        );
-        let index = index_of(&rt, alloc, 2, keeper);
-        assert_eq!(rt;
-            (index.view().base(), index.view().length()),
-            (base, first + count)
-        );
+        assert_eq!(rt; bad_row_of(&rt, alloc, rows), Some(3), "{bad:?}");
     }
     Ok(())
 }
@@ -292,22 +292,24 @@ fn a_book_is_opened_with_two_equal_graphs(rt: HostRuntime) -> Result<(), Fail> {
     Ok(())
 }
 
+/// Takes the keeper from home, and brings it back.
+fn visit(keepers: &mut MemoryKeepers, alloc: Global) -> Result<(), KeepError>
+    requires { IsTrue (is_home keepers.old) }
+    ensures { IsTrue (is_home keepers.new) }
+{
+    let keeper = keepers.keeper_at(alloc, "any")?;
+    keepers.take_back(keeper);
+    Ok(())
+}
+
 #[test]
 fn a_keeper_leaves_home_and_comes_back(rt: HostRuntime) -> Result<(), Fail> {
     let alloc = rt.alloc();
-    let kept = MemoryKeeper::new(alloc, vec![in alloc; 1]?);
+    let kept = MemoryKeeper::new(alloc, Vec::new(alloc));
     let mut keepers = MemoryKeepers::new(kept, vec![in alloc; 1]?);
-    for failed in [true, false, false] {
-        match keepers.keeper_at(alloc, "any") {
-            Err(why) => assert_eq!(rt; (why, failed), (KeepError::Failed, true)),
-            Ok(keeper) => {
-                assert!(rt; !failed);
-                let mut keeper = keeper;
-                let _ = keeper.trim(0);
-                keepers.take_back(keeper);
-            }
-        }
-    }
+    assert_eq!(rt; visit(&mut keepers, alloc), Err(KeepError::Failed));
+    assert_eq!(rt; visit(&mut keepers, alloc), Ok(()));
+    assert_eq!(rt; visit(&mut keepers, alloc), Ok(()));
     let mut none = NoKeepers::new();
     if let Ok(mut keeper) = none.keeper_at(alloc, "") {
         assert_eq!(rt; keeper.migrate(), Ok(()));

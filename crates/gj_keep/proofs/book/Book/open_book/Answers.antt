@@ -6,7 +6,7 @@ use Rattle.gj_keep.specs.Rows.{first_place, opened}
 use Rattle.gj_keep.specs.Books.{BookKeeps, IsStore}
 use Rattle.gj_keep.specs.Openings.{Shows}
 use Rattle.gj_keep.proofs.StoreLemmas.{sound_of, sound_end}
-use Rattle.gj_keep.proofs.OpeningLemmas.{keeps_read, keeps_again, shows_again, store_opened}
+use Rattle.gj_keep.proofs.OpeningLemmas.{keeps_again, keeps_left, keeps_read, plain_again, shows_again, store_opened}
 use Rattle.gj_keep.proofs.book.Book.open_book.Goals as goal
 
 pub invariant_of-book : goal.invariant_of-book
@@ -46,3 +46,9 @@ returns-clause-again g c h tells keeps =
           subst (λ rs. Shows (g.W.Graph.shown (get_or c.in-Ok-graphs_of.graphs.items i d)) c.args.conf (opened rs)) c.deref.ensures.value (c.in-Ok-graphs_of.ensures.each i d low) in
           shows_again _ c.args.conf _ rows h some (keeps tells) (c.in-Ok.ensures.told tells) shows),
     )
+
+pub returns-in-Err-clause-again_err : goal.returns-in-Err-clause-again_err
+returns-in-Err-clause-again_err g c h tells keeps = (
+  keeps_left c.args.conf _ _ h c.in-Err.ensures.err keeps,
+  plain_again c.args.conf _ h _ (keeps tells) (c.in-Err.ensures.refused tells),
+)
