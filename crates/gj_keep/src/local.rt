@@ -1,5 +1,5 @@
 //! An index of one book and one graph.
-ghost use Rattle.std.specs.Prelude.{◌≡◌, ◌+◌, ◌/◌, ◌^◌, ◌≤◌, ℕ, nat_lt, length, slice_index_or, None, IfOk, IfErr, OnOk, IsTrue, MatchResult};
+ghost use Rattle.std.specs.Prelude.{◌≡◌, ◌+◌, ◌/◌, ◌^◌, ◌≤◌, ℕ, nat_lt, length, slice_index_or, false, None, IfOk, IfErr, OnOk, IsTrue, MatchResult};
 ghost use Rattle.gj_base.specs.History.{end_of, conf_of, more, empty_history};
 
 use crate::book::Book;
@@ -22,7 +22,7 @@ impl<K: Keeper, W: Grow + Drop> Local<K, W> {
     ghost use Rattle.gj_base.specs.declared.keeper.KeptConf.{KeptConf};
     ghost use Rattle.gj_base.specs.declared.keeper.KeptItem.{KeptItem};
     ghost use Rattle.gj_keep.specs.declared.opening.OpenError.TheVariants.{ConfDiffers, Place};
-    ghost use Rattle.gj_keep.specs.Books.{Keeps, told_rows};
+    ghost use Rattle.gj_keep.specs.Books.{Keeps, asked, suits, told_rows};
     ghost use Rattle.gj_keep.specs.Locals.{LocalKeeps};
     ghost use Rattle.gj_keep.specs.Openings.{IsLeft, IsPrepared, MayRefuse, due, faults_at};
     ghost use Rattle.gj_keep.specs.Rows.{good, opened};
@@ -42,7 +42,8 @@ impl<K: Keeper, W: Grow + Drop> Local<K, W> {
         ensures count { MatchResult result (λ l. l.book.faults ≡ K.faults keeper) (λ r. K.faults r.keeper ≡ faults_at r.why (K.faults keeper)) }
 
         ensures err { IfErr result (λ r. IsLeft conf (K.kept keeper) (K.kept r.keeper)) }
-        ensures differs { IfErr result (λ r. (old now : KeptConf) → r.why ≡ ConfDiffers old now → K.kept r.keeper ≡ K.kept keeper) }
+        ensures differs { IfErr result (λ r. (old now : KeptConf) → r.why ≡ ConfDiffers old now
+            → (suits conf (Some old) ≡ false) × (now ≡ asked conf) × (K.kept r.keeper ≡ K.kept keeper)) }
 
         // Whatever call failed last before, a kept history is opened again, and a refusal leaves it kept.
         ensures again { (h : History) → IsTrue (K.kept keeper).tells → Keeps conf (K.kept keeper) h

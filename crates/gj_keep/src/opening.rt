@@ -1,5 +1,5 @@
 //! Opening a book over a keeper.
-ghost use Rattle.std.specs.Prelude.{◌≡◌, ℕ, ◌<◌, ◌≤◌, [], length, slice_index_or, Option, IfOk, IfErr, OnOk, OnErr, IsTrue, MatchResult};
+ghost use Rattle.std.specs.Prelude.{◌≡◌, ℕ, ◌<◌, ◌≤◌, [], length, slice_index_or, Option, false, IfOk, IfErr, OnOk, OnErr, IsTrue, MatchResult};
 ghost use Rattle.gj_base.specs.declared.history.History.{History};
 ghost use Rattle.gj_base.specs.declared.keeper.KeptConf.{KeptConf};
 ghost use Rattle.gj_base.specs.Causes.{Rose, faults_after};
@@ -78,6 +78,7 @@ fn prepare<K: Keeper>(keeper: &mut K, conf: Conf) -> Result<(), OpenError>
     ensures err { OnErr result (K.kept keeper.new ≡ K.kept keeper.old) }
     ensures refused { IsTrue (K.kept keeper.old).tells → IfErr result (λ why. MayRefuse (due conf (K.kept keeper.old)) why) }
     ensures bare_refused { IsTrue (K.kept keeper.old).bare → IfErr result (λ why. MayRefuse None why) }
+    ensures differs { IfErr result (λ why. (old now : KeptConf) → why ≡ ConfDiffers old now → (suits conf (Some old) ≡ false) × (now ≡ asked conf)) }
     ensures others { IfErr result (λ why. (why ≡ Place → ⊥) × ((row : ℕ) → why ≡ KeptRow row → ⊥)) }
     ensures count { MatchResult result (λ _. K.faults keeper.new ≡ K.faults keeper.old) (λ why. K.faults keeper.new ≡ faults_at why (K.faults keeper.old)) }
     ensures later { K.faults keeper.old ≤ K.faults keeper.new }
@@ -107,14 +108,17 @@ fn read_rows<K: Keeper>(
     ensures suited { IsTrue (K.kept keeper.old).tells → OnOk result (IsTrue (suits conf (K.kept keeper.old).conf)) }
     ensures ok { OnOk result (IsPrepared conf (K.kept keeper.old) (K.kept keeper.new)) }
     ensures err { OnErr result (IsLeft conf (K.kept keeper.old) (K.kept keeper.new)) }
-    ensures differs { IfErr result (λ why. (old now : KeptConf) → why ≡ ConfDiffers old now → K.kept keeper.new ≡ K.kept keeper.old) }
+    ensures differs { IfErr result (λ why. (old now : KeptConf) → why ≡ ConfDiffers old now
+        → (suits conf (Some old) ≡ false) × (now ≡ asked conf) × (K.kept keeper.new ≡ K.kept keeper.old)) }
     ensures refused { IsTrue (K.kept keeper.old).tells → IfErr result (λ why. MayRefuse (due conf (K.kept keeper.old)) why) }
     ensures bare_refused { IsTrue (K.kept keeper.old).bare → IfErr result (λ why. MayRefuse None why) }
     ensures place { IfErr result (λ why. why ≡ Place → ⊥) }
     ensures count { MatchResult result (λ _. K.faults keeper.new ≡ K.faults keeper.old) (λ why. K.faults keeper.new ≡ faults_at why (K.faults keeper.old)) }
     ensures later { K.faults keeper.old ≤ K.faults keeper.new }
 {
-    prepare(keeper, conf)?;
+    if let Err(why) = prepare(keeper, conf) {
+        return Err(why);
+    }
     let rows = match keeper.rows(alloc) {
         Err(why) => return Err(refusal(why)),
         Ok(rows) => rows,
@@ -157,7 +161,8 @@ impl<K: Keeper> Book<K> {
 
         // What a refusal leaves.
         ensures err { IfErr result (λ r. IsLeft conf (K.kept keeper) (K.kept r.keeper)) }
-        ensures differs { IfErr result (λ r. (old now : KeptConf) → r.why ≡ ConfDiffers old now → K.kept r.keeper ≡ K.kept keeper) }
+        ensures differs { IfErr result (λ r. (old now : KeptConf) → r.why ≡ ConfDiffers old now
+            → (suits conf (Some old) ≡ false) × (now ≡ asked conf) × (K.kept r.keeper ≡ K.kept keeper)) }
 
         // Whatever call failed last before, a kept history is opened again, and a refusal leaves it kept.
         ensures again { (h : History) → IsTrue (K.kept keeper).tells → Keeps conf (K.kept keeper) h

@@ -1,9 +1,11 @@
-ghost use Rattle.std.specs.Prelude.{◌+◌, ◌^◌, ◌<◌, IsTrue};
+ghost use Rattle.std.specs.Prelude.{◌+◌, ◌^◌, ◌<◌, IfOk, IsTrue};
+ghost use Rattle.gj_base.specs.declared.history.History.{History};
+ghost use Rattle.gj_keep.specs.Locals.{LocalKeeps};
 ghost use Rattle.gj_keep.specs.MemoryHomes.{is_home};
 
 use super::*;
 use gj_base::{
-    Conf, Graph, HISTORY_END, Index, IndexError, Item, KeepError, Keeper, Keepers, KeptConf,
+    Conf, Graph, Grow, HISTORY_END, Index, IndexError, Item, KeepError, Keeper, Keepers, KeptConf,
     KeptItem, Kind, ListGraph, MAX_ID, Receipt, Side,
 };
 use std::alloc::{AllocError, Global};
@@ -63,6 +65,18 @@ fn index_of(rt: &impl Abort, alloc: Global, segments: u32, keeper: MemoryKeeper)
     }
 }
 
+/// Opens the index again: it keeps each history that it kept, whatever its last post answered.
+fn again<K: Keeper, W: Grow + Drop>(
+    alloc: Global,
+    index: Local<K, W>,
+) -> Result<Local<K, W>, OpenRefused<K>>
+    ensures { (h : History) → IsTrue index.book.kept.tells → LocalKeeps (W.shown index.graph) index.book h
+        → IfOk result (λ l. LocalKeeps (W.shown l.graph) l.book h) }
+{
+    let conf = index.view().conf();
+    Local::open_local(alloc, conf, index.into_keeper())
+}
+
 fn refused(
     rt: &impl Abort,
     alloc: Global,
@@ -114,7 +128,9 @@ fn a_post_that_is_not_kept_takes_no_place(rt: HostRuntime) -> Result<(), Fail> {
         index.post_items(&[item(&rt, 3)]),
         Ok(Receipt { from: 1, to: 2 })
     );
-    let again = index_of(&rt, alloc, 1, index.into_keeper());
+    let Ok(again) = again(alloc, index) else {
+        panic!(rt; "it was refused");
+    };
     assert_eq!(rt; again.view().length(), 2);
     for (user, count) in [(1, 1), (2, 0), (3, 1)] {
         assert_eq!(rt;
