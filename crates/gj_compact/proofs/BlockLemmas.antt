@@ -1,13 +1,15 @@
 -- Counts and bounds over a part of a vertex's ends.
-use Rattle.std.proofs.Common.{◌≡◌, ℕ, ◌+◌, ◌-◌, ◌*◌, ◌<◌, ◌≤◌, ◌∙◌, true, false, cond, List, [], ◌∷◌, ◌++◌, length, map, take, drop, get_or, count_by, slice_get, Some, min, max, refl, arith, sym, ap, inl, inr}
+use Rattle.std.proofs.Common.{◌≡◌, ℕ, ◌+◌, ◌-◌, ◌*◌, ◌<◌, ◌≤◌, ◌∙◌, true, false, cond, List, [], ◌∷◌, ◌++◌, length, map, filter, take, drop, get_or, count_by, slice_get, Option, Some, min, max, refl, arith, sym, ap, inl, inr}
 use Rattle.std.specs.List.{Contains}
-use Rattle.std.proofs.lemmas.Bool.{cases_lt}
-use Rattle.std.proofs.lemmas.List.{length-take, length-drop, get_or-drop, get_or_append_left, get_or_push, length_push, take_more, take_all, take-map, drop-map, drop-drop, map-append}
+use Rattle.std.proofs.lemmas.Bool.{cases_lt, cases_Bool}
+use Rattle.std.proofs.lemmas.List.{length-take, length-drop, get_or-drop, get_or_append_left, get_or_push, length_push, take_more, take_all, drop_all, get_or-take, take-map, drop-map, drop-drop, map-append}
 use Rattle.std.proofs.lemmas.List.Sums.{count_by-le-length, count_by_more_yes, count_by_more_no, sum_by-cons}
-use Rattle.std.proofs.lemmas.Option.{get_or_from_slice_get}
+use Rattle.std.proofs.lemmas.Option.{get_or_from_slice_get, slice_get-get_or}
 use Rattle.gj_base.specs.declared.kind.Kind.{Kind}
 use Rattle.gj_base.specs.declared.mask.Mask.{Mask}
+use Rattle.gj_base.specs.Kinds.{lets}
 use Rattle.gj_base.specs.Numbered.{lets_end}
+use Rattle.gj_base.proofs.MaskedLemmas.{front}
 use Rattle.gj_compact.specs.declared.edge.End.{End}
 use Rattle.gj_compact.specs.Blocks.{block_of, moments_of, moments_between, AreBounds, lets_through}
 use Rattle.gj_compact.proofs.OpenLemmas.{run_within}
@@ -121,3 +123,33 @@ block-dated run block = ap (take 64) (drop-map dated (64 * block) run) ∙ take-
 pub moments-dated : (run : List End) → moments_of (map dated run) ≡ map (λ (e : End). e.at) run
 moments-dated [] = refl
 moments-dated (end ∷ run) = let rest = moments-dated run in rw rest refl
+
+-- the ends of a part from one of them on
+pub part_from : (cells : List End) (from to k : ℕ) (end : End) → from ≤ k → k < to → to ≤ length cells → slice_get cells k ≡ Some end
+    → drop (k - from) (take (to - from) (drop from cells)) ≡ end ∷ drop (k + 1 - from) (take (to - from) (drop from cells))
+part_from cells from to k end order before inside is =
+    let part = take (to - from) (drop from cells) in
+    let long : length part ≡ to - from = omega (arith, length-take (to - from) (drop from cells), length-drop from cells) in
+    let below : k - from < length part = omega arith in
+    let here : get_or part (k - from) end ≡ end = get_or-take (to - from) (drop from cells) (k - from) end (omega arith) ∙ part_get cells from k end order is in
+    front part (k - from) end below (slice_get-get_or part (k - from) end below ∙ ap (λ (e : End). let o : Option End = Some e in o) here)
+    ∙ ap (λ (n : ℕ). end ∷ drop n part) (sym (part_next from k order))
+
+pub filter_yes : (mask : Mask) (end : End) (ends rest : List End) → ends ≡ end ∷ rest → lets_through mask end ≡ true → filter (lets_through mask) ends ≡ end ∷ filter (lets_through mask) rest
+filter_yes mask end ends rest are passes = rw (are, passes) refl
+
+pub filter_no : (mask : Mask) (end : End) (ends rest : List End) → ends ≡ end ∷ rest → lets_through mask end ≡ false → filter (lets_through mask) ends ≡ filter (lets_through mask) rest
+filter_no mask end ends rest are stays = rw (are, stays) refl
+
+-- past a part nothing is left of it
+pub part_past : (cells : List End) (from to k : ℕ) → to ≤ k → drop (k - from) (take (to - from) (drop from cells)) ≡ []
+part_past cells from to k past = drop_all (k - from) (take (to - from) (drop from cells)) (omega (arith, length-take (to - from) (drop from cells)))
+
+pub filter-dated : (mask : Mask) (run : List End) → filter (lets_end mask) (map dated run) ≡ map dated (filter (lets_through mask) run)
+filter-dated mask [] = refl
+filter-dated mask (end ∷ run) =
+    let rest = filter-dated mask run in
+    elim (cases_Bool (lets mask end.kind end.at)) [
+      | inl passes ↦ rw (passes, rest) refl
+      | inr stays ↦ rw (stays, rest) refl
+    ]

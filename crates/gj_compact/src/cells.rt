@@ -1,5 +1,5 @@
 //! Ends in columns: a walk reads the vertices alone, and most queries no moment.
-ghost use Rattle.std.specs.Prelude.{◌≡◌, ◌+◌, ◌-◌, ◌<◌, ◌≤◌, IfOk, IfSome, Some, replicate, length, take, drop, count_by, slice_get, slice_set};
+ghost use Rattle.std.specs.Prelude.{◌≡◌, ◌+◌, ◌-◌, ◌<◌, ◌≤◌, IfOk, IfSome, Some, replicate, length, take, drop, count_by, filter, slice_get, slice_set};
 ghost use Rattle.gj_compact.specs.Blocks.{lets_through, moments_between, AreBounds};
 ghost use Rattle.gj_compact.specs.Cells.{no_end};
 
@@ -104,6 +104,26 @@ impl Cells {
             }
         }
         count
+    }
+
+    /// One of the ends from one place up to another that the mask lets through, by its index among them.
+    pub fn nth(&self, from: usize, to: usize, mask: Mask, i: usize) -> End
+        requires order { from ≤ to }
+        requires inside { to ≤ length self.now }
+        requires index { i < count_by (lets_through mask) (take (to - from) (drop from self.now)) }
+        ensures { slice_get (filter (lets_through mask) (take (to - from) (drop from self.now))) i ≡ Some result }
+    {
+        let mut left = i;
+        for k in from..to {
+            let end = self.get(k);
+            if mask.lets(end.kind, end.at) {
+                if left == 0 {
+                    return end;
+                }
+                left -= 1;
+            }
+        }
+        unreachable!()
     }
 
     /// The least and the greatest moment of the ends from one place up to another.

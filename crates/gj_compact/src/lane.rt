@@ -1,6 +1,6 @@
 //! The ends of each vertex of one side, contiguous and oldest first.
 ghost use Rattle.std.specs.Prelude.{◌≡◌, ◌+◌, ◌-◌, ◌<◌, ◌≤◌, [], IfOk, IfSome, replicate, length, slice_get, slice_index_or, Some};
-ghost use Rattle.std.specs.Prelude.{ℕ, List, map, take, drop, count_by, sum_by};
+ghost use Rattle.std.specs.Prelude.{ℕ, List, map, filter, take, drop, count_by, sum_by};
 ghost use Rattle.gj_compact.specs.Blocks.{lets_through, moments_between, AreBounds};
 ghost use Rattle.gj_compact.specs.declared.lane.Row.{Row};
 ghost use Rattle.gj_compact.specs.Lanes.{run_of, pushed, popped, noted, opened, emptied, wanted, want_of, row_run, AreLaid};
@@ -137,6 +137,18 @@ impl Lane {
         let start = self.rows[v as usize].start;
         self.cells
             .count((start + from) as usize, (start + to) as usize, mask) as u32
+    }
+
+    /// One of the ends that the mask lets through, by its index among them.
+    pub fn nth(&self, v: u32, mask: Mask, i: u32) -> End
+        requires vertex { v < length self.now.runs }
+        requires index { i < count_by (lets_through mask) (run_of self.now.runs v) }
+        ensures { slice_get (filter (lets_through mask) (run_of self.now.runs v)) i ≡ Some result }
+    {
+        let row = self.rows[v as usize];
+        let from = row.start as usize;
+        self.cells
+            .nth(from, from + row.len as usize, mask, i as usize)
     }
 
     /// The least and the greatest moment of the ends from one index up to another.

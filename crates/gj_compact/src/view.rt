@@ -73,6 +73,14 @@ impl SegmentView for CompactSegment {
         let degree = part.lane.degree(v);
         part.lane.count(v, 0, degree, mask)
     }
+
+    fn nth_of(&self, side: Side, v: u32, mask: Mask, i: u32) -> (u32, Kind) {
+        if mask == Mask::all() {
+            return self.edge(side, v, i);
+        }
+        let end = part_of(side, &self.users, &self.posts).lane.nth(v, mask, i);
+        (end.vertex, end.kind)
+    }
 }
 
 impl CompactSegment {
