@@ -1,5 +1,7 @@
 //! The cases of a segment, over the form that takes writes and the contiguous one.
 
+ghost use Rattle.std.specs.Prelude.{◌<◌};
+
 use crate::CompactSegment;
 use gj_base::{Item, Kind, Mask, SegmentView, Side, count_in, end_in};
 use gj_segment::PoolSegment;
