@@ -1,9 +1,7 @@
 -- Ends in columns: what is done to each column is done to the ends.
-use Rattle.std.proofs.Common.{◌≡◌, ℕ, zero, suc, ◌+◌, ◌<◌, ◌≤◌, ◌∙◌, List, [], ◌∷◌, length, take, drop, set, get_or, slice_get, Some, replicate, refl, arith, sym, ap}
-use Rattle.std.proofs.lemmas.Option.{slice_get-get_or}
+use Rattle.std.proofs.Common.{◌≡◌, ℕ, zero, suc, ◌<◌, ◌∙◌, List, [], ◌∷◌, length, take, drop, set, get_or, slice_get, Some, replicate, refl, arith, sym, ap}
 use Rattle.gj_base.specs.declared.kind.Kind.{Kind}
 use Rattle.gj_base.specs.declared.kind.Kind.TheVariants.{Click}
-use Rattle.gj_compact.specs.declared.edge.End.{End}
 use Rattle.gj_compact.specs.Cells.{joined, no_end}
 
 no_kinds : (vs ats : List ℕ) → joined vs [] ats ≡ []
@@ -71,7 +69,7 @@ pub run-joined : (vs vs' : List ℕ) (ks ks' : List Kind) (ats ats' : List ℕ) 
     → take len (drop to (joined vs' ks' ats')) ≡ take len (drop from (joined vs ks ats))
 run-joined vs vs' ks ks' ats ats' to from len ev ek ea =
     ap (take len) (drop-joined to vs' ks' ats') ∙ (take-joined len (drop to vs') (drop to ks') (drop to ats')
-        ∙ (rw (ev, ek, ea) refl ∙ sym (ap (take len) (drop-joined from vs ks ats) ∙ take-joined len (drop from vs) (drop from ks) (drop from ats))))
+    ∙ (rw (ev, ek, ea) refl ∙ sym (ap (take len) (drop-joined from vs ks ats) ∙ take-joined len (drop from vs) (drop from ks) (drop from ats))))
 
 pub front-joined : (vs vs' : List ℕ) (ks ks' : List Kind) (ats ats' : List ℕ) (to : ℕ)
     → take to vs' ≡ take to vs → take to ks' ≡ take to ks → take to ats' ≡ take to ats → take to (joined vs' ks' ats') ≡ take to (joined vs ks ats)

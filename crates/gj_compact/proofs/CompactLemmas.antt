@@ -1,14 +1,13 @@
 -- A compact segment, as its readers see it.
-use Rattle.std.proofs.Common.{◌≡◌, ◌≢◌, ℕ, Bool, true, false, None, zero, suc, ◌+◌, ◌<◌, ◌≤◌, ◌∙◌, eqb, List, [], ◌∷◌, ◌++◌, length, map, filter, take, get_or, slice_get, option_map, Some, replicate, refl, arith, sym, ap, inl, inr, vec_capacity}
+use Rattle.std.proofs.Common.{◌≡◌, ℕ, Bool, true, false, None, ◌+◌, ◌<◌, ◌≤◌, ◌∙◌, eqb, List, [], ◌∷◌, length, map, filter, take, get_or, slice_get, option_map, Some, replicate, refl, arith, sym, ap, inl, inr, vec_capacity}
 use Rattle.std.proofs.lemmas.Bool.{eq-eqb, ne_eqb, cases_eq}
-use Rattle.std.proofs.lemmas.List.{length-map, length-take, get_or-map, get_or-replicate, length-replicate, get_or-take, take_more, map-append}
+use Rattle.std.proofs.lemmas.List.{length-map, length-take, get_or-map, get_or-replicate, get_or-take, take_more}
 use Rattle.std.proofs.lemmas.List.Sums.{length-filter, count_by-le-length}
-use Rattle.std.proofs.lemmas.Option.{slice_get-map, get_or_from_slice_get}
+use Rattle.std.proofs.lemmas.Option.{slice_get-map}
 use Rattle.gj_base.specs.declared.side.Side.{Side}
 use Rattle.gj_base.specs.declared.side.Side.TheVariants.{User, Post}
 use Rattle.gj_base.specs.declared.item.Item.{Item}
 use Rattle.gj_base.specs.declared.kind.Kind.{Kind}
-use Rattle.gj_base.specs.declared.kind.Kind.TheVariants.{Click}
 use Rattle.gj_base.specs.Ends.{ends, vertex_on}
 use Rattle.gj_base.specs.Firsts.{place_of, with_id, HasNoRepeat}
 use Rattle.gj_base.specs.Kinds.{all_kinds}
@@ -18,13 +17,12 @@ use Rattle.gj_base.proofs.MaskedLemmas.{length-dated}
 use Rattle.gj_base.proofs.NumberedEnds.{numbered-below, named-numbered}
 use Rattle.gj_compact.specs.declared.edge.Edge.{Edge}
 use Rattle.gj_compact.specs.declared.edge.End.{End}
-use Rattle.gj_compact.specs.declared.part.Part.{Part}
 use Rattle.gj_compact.specs.declared.compact_segment.CompactSegment.TheInside.{Inside}
 use Rattle.gj_compact.specs.Compact.{IsCompact, IsPart, IsRoomy, HasEnds, shown_by, items_of, part_on}
-use Rattle.gj_compact.specs.Lanes.{Laned, run_of, total_of, sum_of, wanted, emptied, opened}
-use Rattle.gj_compact.specs.Turns.{plain, near, across, is_at, ends_of, AreKnown, HasRoom}
+use Rattle.gj_compact.specs.Lanes.{Laned, run_of, total_of, sum_of, wanted}
+use Rattle.gj_compact.specs.Turns.{plain, near, across, is_at, ends_of}
 use Rattle.gj_compact.proofs.TurnLemmas.{ends_none}
-use Rattle.gj_compact.proofs.NoteLemmas.{total-nil, sum-nil}
+use Rattle.gj_compact.proofs.NoteLemmas.{total-nil}
 
 -- an end with its moment, as a segment's readers see it
 abbrev pub dated : End → ℕ × Kind × ℕ

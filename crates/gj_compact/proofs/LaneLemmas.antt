@@ -1,10 +1,10 @@
 -- What a change of one row changes of the lane.
-use Rattle.std.proofs.Common.{◌≡◌, ◌≢◌, ℕ, zero, suc, ◌+◌, ◌-◌, ◌<◌, ◌≤◌, ◌∙◌, List, [], ◌∷◌, ◌++◌, length, map, take, drop, set, get_or, replicate, refl, arith, sym, ap, inl, inr}
+use Rattle.std.proofs.Common.{◌≡◌, ℕ, zero, suc, ◌+◌, ◌-◌, ◌<◌, ◌≤◌, ◌∙◌, List, [], ◌∷◌, ◌++◌, length, map, take, drop, set, get_or, replicate, refl, arith, sym, ap, inl, inr}
 use Rattle.std.proofs.lemmas.Bool.{cases_eq, cases_lt}
 use Rattle.std.proofs.lemmas.List.{length-map, length-set, length-take, length-drop, get_or-map, get_or-set_same, get_or-set_other, map-set, set-get_or, ext_get_or, drop-take, drop-drop, drop-set-lt, drop-set-add, take-set-le, take_more_set}
 use Rattle.gj_compact.specs.declared.lane.Row.{Row}
 use Rattle.gj_compact.specs.declared.edge.End.{End}
-use Rattle.gj_compact.specs.Lanes.{Laned, AreLaid, row_run, row_end, shown_by, run_of, pushed, popped, noted, emptied}
+use Rattle.gj_compact.specs.Lanes.{AreLaid, row_run, row_end, shown_by, run_of, pushed, popped, noted, emptied}
 
 -- a row that shows the same as the one that it replaces
 same_at : {X Y : Type 0} (f : X → Y) (xs : List X) (i : ℕ) (x new : X) (d : Y) → i < length xs → x ≡ get_or xs i x → f new ≡ f x → map f (set xs i new) ≡ map f xs
@@ -110,3 +110,9 @@ lane_emptied rows rows' cells are =
     let b = map-replicate (λ (r : Row). r.spare) row (length rows) in
     let d = map-replicate (λ (r : Row). r.fresh) row (length rows) in
     rw (are, a, b, d, n) refl
+
+pub run_is : (rows : List Row) (cells : List End) (v : ℕ) (row : Row) → v < length rows → row ≡ get_or rows v row → row_run cells row ≡ run_of (shown_by rows cells).runs v
+run_is rows cells v row below is = ap (row_run cells) is ∙ sym (get_or-map (row_run cells) rows v row [] below)
+
+pub run_long : (cells : List End) (row : Row) → length (row_run cells row) ≤ row.len
+run_long cells row = omega (arith, length-take row.len (drop row.start cells))

@@ -1,7 +1,7 @@
 -- The runs laid out anew, row by row.
-use Rattle.std.proofs.Common.{◌≡◌, ◌≢◌, ℕ, zero, suc, ◌+◌, ◌-◌, ◌<◌, ◌≤◌, ◌∙◌, List, [], ◌∷◌, ◌++◌, length, map, take, drop, set, get_or, refl, arith, sym, ap, inl, inr}
+use Rattle.std.proofs.Common.{◌≡◌, ◌≢◌, ℕ, zero, suc, ◌+◌, ◌-◌, ◌<◌, ◌≤◌, ◌∙◌, List, [], ◌∷◌, length, map, take, drop, set, get_or, refl, arith, sym, ap, inl, inr}
 use Rattle.std.specs.List.{sum_by}
-use Rattle.std.proofs.lemmas.Bool.{cases_eq, cases_lt}
+use Rattle.std.proofs.lemmas.Bool.{cases_eq}
 use Rattle.std.proofs.lemmas.List.{length-map, length-set, length-take, length-drop, get_or-map, get_or-set_same, get_or-set_other, ext_get_or, drop-take, take-take, get_or_default}
 use Rattle.std.proofs.lemmas.List.Sums.{sum_by-cons}
 use Rattle.gj_compact.specs.declared.lane.Row.{Row}
@@ -34,7 +34,7 @@ laid_none old cells back = record {
 }
 
 -- what lies before a place is read from there
-run_within : (xs : List End) (start len to : ℕ) → start + len ≤ to → take len (drop start xs) ≡ take len (drop start (take to xs))
+pub run_within : (xs : List End) (start len to : ℕ) → start + len ≤ to → take len (drop start xs) ≡ take len (drop start (take to xs))
 run_within xs start len to fits =
     let e : to ≡ start + (to - start) = omega arith in
     sym (ap (λ (n : ℕ). take len (drop start (take n xs))) e ∙ (ap (take len) (drop-take start (to - start) xs) ∙ take-take len (to - start) (drop start xs) (omega arith)))
@@ -72,16 +72,16 @@ laid_more old rows cells back back' v next row so below is copied before sum =
             })
       ];
       apart = λ u w d a b e.
-      let lower : u ≢ v = omega arith in
-      let at_u : get_or (set rows v new) u d ≡ get_or rows u d = get_or-set_other rows v u new d lower in
-      elim (cases_eq w v) [
-        | inl q ↦
-            let here : get_or (set rows v new) w d ≡ new = ap (λ (n : ℕ). get_or (set rows v new) n d) q ∙ get_or-set_same rows v new d in_rows in
-            rw (at_u, here) (so.moved u d (omega (arith, a, q)) (omega (arith, a, e))).within
-        | inr ne ↦
-            let at_w : get_or (set rows v new) w d ≡ get_or rows w d = get_or-set_other rows v w new d ne in
-            rw (at_u, at_w) (so.apart u w d a (omega (arith, b, ne)) e)
-      ];
+          let lower : u ≢ v = omega arith in
+          let at_u : get_or (set rows v new) u d ≡ get_or rows u d = get_or-set_other rows v u new d lower in
+          elim (cases_eq w v) [
+            | inl q ↦
+                let here : get_or (set rows v new) w d ≡ new = ap (λ (n : ℕ). get_or (set rows v new) n d) q ∙ get_or-set_same rows v new d in_rows in
+                rw (at_u, here) (so.moved u d (omega (arith, a, q)) (omega (arith, a, e))).within
+            | inr ne ↦
+                let at_w : get_or (set rows v new) w d ≡ get_or rows w d = get_or-set_other rows v w new d ne in
+                rw (at_u, at_w) (so.apart u w d a (omega (arith, b, ne)) e)
+          ];
     }
 
 -- when all are in place
@@ -124,8 +124,14 @@ wanted_is (row ∷ rows) cells within =
     let rest = wanted_is rows cells (λ v d h. within (suc v) d (omega arith)) in
     let inside = within zero row (omega arith) in
     let long : length (row_run cells row) ≡ row.len = omega (arith, length-take row.len (drop row.start cells), length-drop row.start cells, inside) in
-    omega (arith, rest, long, sum_by-cons (λ (run : List End). length run) (row_run cells row) (map (row_run cells) rows),
-    sum_by-cons (λ (n : ℕ). n) row.fresh (map (λ (r : Row). r.fresh) rows), sum_by-cons want_of row rows)
+    omega (
+      arith,
+      rest,
+      long,
+      sum_by-cons (λ (run : List End). length run) (row_run cells row) (map (row_run cells) rows),
+      sum_by-cons (λ (n : ℕ). n) row.fresh (map (λ (r : Row). r.fresh) rows),
+      sum_by-cons want_of row rows,
+    )
 
 map_zero : (rows : List Row) → map {B = ℕ} (λ (row : Row). 0) rows ≡ map {B = ℕ} (λ (n : ℕ). 0) (map (λ (row : Row). row.fresh) rows)
 map_zero [] = refl

@@ -1,5 +1,5 @@
 -- Interaction by interaction.
-use Rattle.std.proofs.Common.{◌≡◌, ◌≢◌, ℕ, zero, suc, ◌+◌, ◌-◌, ◌<◌, ◌≤◌, ◌∙◌, eqb, true, false, List, [], ◌∷◌, ◌++◌, length, map, filter, take, drop, set, get_or, refl, arith, sym, ap, inl, inr, append_assoc}
+use Rattle.std.proofs.Common.{◌≡◌, ◌≢◌, ℕ, ◌+◌, ◌-◌, ◌<◌, ◌∙◌, eqb, true, false, List, [], ◌∷◌, ◌++◌, length, map, filter, take, drop, set, get_or, refl, arith, sym, ap, inl, inr, append_assoc}
 use Rattle.std.proofs.lemmas.Bool.{cases_eq, cases_lt, eq-eqb, ne_eqb}
 use Rattle.std.proofs.lemmas.List.{append-nil, length-take, length-drop, drop-take, drop-drop, drop_more, take_more, get_or-set_same, get_or-set_other, length_push, length-set, get_or_past, map-append}
 use Rattle.std.proofs.lemmas.List.Sums.{sum_by-set}
@@ -80,31 +80,31 @@ filled_more old lane lane' side edges i x so below is within new =
             ap (λ (n : ℕ). get_or (set lane.runs u (run_of lane.runs u ++ across side x ∷ [])) n []) e ∙ get_or-set_same lane.runs u _ [] within in
             let old_u : run_of lane.runs u ≡ run_of old.runs u ++ ends_of (take i edges) side u = so.runs u (omega (arith, within, so.long)) in
             at ∙ (ap (λ (l : List End). l ++ across side x ∷ []) old_u ∙ (append_assoc (run_of old.runs u) (ends_of (take i edges) side u) (across side x ∷ [])
-                ∙ (ap (λ (l : List End). run_of old.runs u ++ l) (sym (ap (λ (l : List Edge). ends_of l side u) last ∙ ends_push_yes (take i edges) x side u refl))
-                    ∙ ap (λ (n : ℕ). run_of old.runs n ++ ends_of (take (i + 1) edges) side n) (sym e))))
+            ∙ (ap (λ (l : List End). run_of old.runs u ++ l) (sym (ap (λ (l : List Edge). ends_of l side u) last ∙ ends_push_yes (take i edges) x side u refl))
+            ∙ ap (λ (n : ℕ). run_of old.runs n ++ ends_of (take (i + 1) edges) side n) (sym e))))
         | inr ne ↦
             get_or-set_other lane.runs u v _ [] ne ∙ (so.runs v h
-                ∙ ap (λ (l : List End). run_of old.runs v ++ l) (sym (ap (λ (l : List Edge). ends_of l side v) last ∙ ends_push_no (take i edges) x side v (λ (q : near side x ≡ v). ne (sym q)))))
+            ∙ ap (λ (l : List End). run_of old.runs v ++ l) (sym (ap (λ (l : List Edge). ends_of l side v) last ∙ ends_push_no (take i edges) x side v (λ (q : near side x ≡ v). ne (sym q)))))
       ];
       long = ap length runs' ∙ (length-set lane.runs u _ ∙ so.long);
       fresh = ap (λ (l : Laned). l.fresh) new ∙ so.fresh;
       size = ap (λ (l : Laned). l.room) new ∙ so.size;
       total = omega (arith, so.total, ap total_of runs', sum_by-set (λ (run : List End). length run) lane.runs u (run_of lane.runs u ++ across side x ∷ []) [] within, length_push (run_of lane.runs u) (across side x));
       room = λ v h.
-      let was = so.room v (omega (arith, h, ap length runs', length-set lane.runs u (run_of lane.runs u ++ across side x ∷ []))) in
-      let e = ap (λ (l : Laned). get_or l.spare v 0) new in
-      let f = ap (λ (l : List Edge). length (ends_of l side v)) front in
-      elim (cases_eq v u) [
-        | inl q ↦
-            let g = ap length (ends_yes x (drop (i + 1) edges) side v (sym q)) in
-            let s = ap (λ (n : ℕ). get_or (set lane.spare u (get_or lane.spare u 0 - 1)) n 0) q ∙ get_or-set_same lane.spare u (get_or lane.spare u 0 - 1) 0 in_spare in
-            let t = ap (λ (n : ℕ). get_or lane.spare n 0) q in
-            omega (arith, was, e, f, g, s, t)
-        | inr ne ↦
-            let g = ap length (ends_no x (drop (i + 1) edges) side v (λ (q : near side x ≡ v). ne (sym q))) in
-            let s = get_or-set_other lane.spare u v (get_or lane.spare u 0 - 1) 0 ne in
-            omega (arith, was, e, f, g, s)
-      ];
+          let was = so.room v (omega (arith, h, ap length runs', length-set lane.runs u (run_of lane.runs u ++ across side x ∷ []))) in
+          let e = ap (λ (l : Laned). get_or l.spare v 0) new in
+          let f = ap (λ (l : List Edge). length (ends_of l side v)) front in
+          elim (cases_eq v u) [
+            | inl q ↦
+                let g = ap length (ends_yes x (drop (i + 1) edges) side v (sym q)) in
+                let s = ap (λ (n : ℕ). get_or (set lane.spare u (get_or lane.spare u 0 - 1)) n 0) q ∙ get_or-set_same lane.spare u (get_or lane.spare u 0 - 1) 0 in_spare in
+                let t = ap (λ (n : ℕ). get_or lane.spare n 0) q in
+                omega (arith, was, e, f, g, s, t)
+            | inr ne ↦
+                let g = ap length (ends_no x (drop (i + 1) edges) side v (λ (q : near side x ≡ v). ne (sym q))) in
+                let s = get_or-set_other lane.spare u v (get_or lane.spare u 0 - 1) 0 ne in
+                omega (arith, was, e, f, g, s)
+          ];
     }
 
 -- after the first edges of the oldest segment
@@ -164,7 +164,7 @@ shed_more old lane lane' side edges i x so below is within new =
             let more : length (ends_of (take (i + 1) edges) side u) ≡ length (ends_of (take i edges) side u) + 1 =
             ap length (ap (λ (l : List Edge). ends_of l side u) last ∙ ends_push_yes (take i edges) x side u refl) ∙ length_push (ends_of (take i edges) side u) (across side x) in
             at v e ∙ (ap (drop 1) old_u ∙ (drop-drop 1 (length (ends_of (take i edges) side u)) (run_of old.runs u)
-                ∙ (ap (λ (n : ℕ). drop n (run_of old.runs u)) (sym more) ∙ ap (λ (n : ℕ). drop (length (ends_of (take (i + 1) edges) side n)) (run_of old.runs n)) (sym e))))
+            ∙ (ap (λ (n : ℕ). drop n (run_of old.runs u)) (sym more) ∙ ap (λ (n : ℕ). drop (length (ends_of (take (i + 1) edges) side n)) (run_of old.runs n)) (sym e))))
         | inr ne ↦
             let same : ends_of (take (i + 1) edges) side v ≡ ends_of (take i edges) side v =
             ap (λ (l : List Edge). ends_of l side v) last ∙ ends_push_no (take i edges) x side v (λ (q : near side x ≡ v). ne (sym q)) in
@@ -174,19 +174,19 @@ shed_more old lane lane' side edges i x so below is within new =
       fresh = ap (λ (l : Laned). l.fresh) new ∙ so.fresh;
       size = ap (λ (l : Laned). l.room) new ∙ so.size;
       total =
-      let any = shed_any old lane side edges i x so below is within in
-      omega (arith, so.total, ap total_of runs', sum_by-set (λ (run : List End). length run) lane.runs u (drop 1 (run_of lane.runs u)) [] within, length-drop 1 (run_of lane.runs u), any);
+          let any = shed_any old lane side edges i x so below is within in
+          omega (arith, so.total, ap total_of runs', sum_by-set (λ (run : List End). length run) lane.runs u (drop 1 (run_of lane.runs u)) [] within, length-drop 1 (run_of lane.runs u), any);
       begins = λ v h.
-      let h' : v < length lane.runs = omega (arith, h, ap length runs', length-set lane.runs u (drop 1 (run_of lane.runs u))) in
-      elim (cases_eq v u) [
-        | inl e ↦
-            ap (take (length (ends_of (drop (i + 1) edges) side v))) (at v e)
-            ∙ (ap (λ (n : ℕ). take (length (ends_of (drop (i + 1) edges) side n)) (drop 1 (run_of lane.runs u))) e
+          let h' : v < length lane.runs = omega (arith, h, ap length runs', length-set lane.runs u (drop 1 (run_of lane.runs u))) in
+          elim (cases_eq v u) [
+            | inl e ↦
+                ap (take (length (ends_of (drop (i + 1) edges) side v))) (at v e)
+                ∙ (ap (λ (n : ℕ). take (length (ends_of (drop (i + 1) edges) side n)) (drop 1 (run_of lane.runs u))) e
                 ∙ (sym (drop-take 1 (length (ends_of (drop (i + 1) edges) side u)) (run_of lane.runs u)) ∙ (ap (drop 1) first ∙ ap (λ (n : ℕ). ends_of (drop (i + 1) edges) side n) (sym e))))
-        | inr ne ↦
-            let same : ends_of (drop i edges) side v ≡ ends_of (drop (i + 1) edges) side v =
-            ap (λ (l : List Edge). ends_of l side v) front ∙ ends_no x (drop (i + 1) edges) side v (λ (q : near side x ≡ v). ne (sym q)) in
-            ap (take (length (ends_of (drop (i + 1) edges) side v))) (off v ne)
-            ∙ (ap (λ (l : List End). take (length l) (run_of lane.runs v)) (sym same) ∙ (so.begins v h' ∙ same))
-      ];
+            | inr ne ↦
+                let same : ends_of (drop i edges) side v ≡ ends_of (drop (i + 1) edges) side v =
+                ap (λ (l : List Edge). ends_of l side v) front ∙ ends_no x (drop (i + 1) edges) side v (λ (q : near side x ≡ v). ne (sym q)) in
+                ap (take (length (ends_of (drop (i + 1) edges) side v))) (off v ne)
+                ∙ (ap (λ (l : List End). take (length l) (run_of lane.runs v)) (sym same) ∙ (so.begins v h' ∙ same))
+          ];
     }

@@ -1,9 +1,10 @@
 //! Ends in columns: a walk reads the vertices alone, and most queries no moment.
-ghost use Rattle.std.specs.Prelude.{◌≡◌, ◌+◌, ◌<◌, ◌≤◌, IfOk, IfSome, Some, replicate, length, take, drop, slice_get, slice_set};
+ghost use Rattle.std.specs.Prelude.{◌≡◌, ◌+◌, ◌-◌, ◌<◌, ◌≤◌, IfOk, IfSome, Some, replicate, length, take, drop, count_by, filter, slice_get, slice_set};
+ghost use Rattle.gj_compact.specs.Blocks.{lets_through, moments_between, AreBounds};
 ghost use Rattle.gj_compact.specs.Cells.{no_end};
 
 use crate::edge::End;
-use gj_base::{Kind, Memory};
+use gj_base::{Kind, Mask, Memory};
 use std::alloc::Global;
 use std::marker::Model;
 
@@ -86,6 +87,59 @@ impl Cells {
         ensures { IfSome (slice_get self.now i) (λ end. result ≡ end.vertex) }
     {
         self.vertices[i]
+    }
+
+    /// How many of the ends from one place up to another the mask lets through.
+    pub fn count(&self, from: usize, to: usize, mask: Mask) -> usize
+        requires order { from ≤ to }
+        requires inside { to ≤ length self.now }
+        ensures exact { result ≡ count_by (lets_through mask) (take (to - from) (drop from self.now)) }
+        ensures in_range { result ≤ to - from }
+    {
+        let mut count = 0;
+        for i in from..to {
+            let end = self.get(i);
+            if mask.lets(end.kind, end.at) {
+                count += 1;
+            }
+        }
+        count
+    }
+
+    /// One of the ends from one place up to another that the mask lets through, by its index among them.
+    pub fn nth(&self, from: usize, to: usize, mask: Mask, i: usize) -> End
+        requires order { from ≤ to }
+        requires inside { to ≤ length self.now }
+        requires index { i < count_by (lets_through mask) (take (to - from) (drop from self.now)) }
+        ensures { slice_get (filter (lets_through mask) (take (to - from) (drop from self.now))) i ≡ Some result }
+    {
+        let mut left = i;
+        for k in from..to {
+            let end = self.get(k);
+            if mask.lets(end.kind, end.at) {
+                if left == 0 {
+                    return end;
+                }
+                left -= 1;
+            }
+        }
+        unreachable!()
+    }
+
+    /// The least and the greatest moment of the ends from one place up to another.
+    pub fn bounds(&self, from: usize, to: usize) -> (u64, u64)
+        requires some { from < to }
+        requires inside { to ≤ length self.now }
+        ensures { AreBounds (moments_between from to self.now) result.0 result.1 }
+    {
+        let mut least = self.get(from).at;
+        let mut greatest = least;
+        for i in from + 1..to {
+            let at = self.get(i).at;
+            least = least.min(at);
+            greatest = greatest.max(at);
+        }
+        (least, greatest)
     }
 
     /// Puts the end at a place.

@@ -1,12 +1,13 @@
 //! The ends of each vertex of one side, contiguous and oldest first.
-ghost use Rattle.std.specs.Prelude.{◌≡◌, ◌+◌, ◌<◌, ◌≤◌, [], IfOk, IfSome, replicate, length, slice_get, slice_index_or, Some};
-ghost use Rattle.std.specs.Prelude.{ℕ, List, map, sum_by};
+ghost use Rattle.std.specs.Prelude.{◌≡◌, ◌+◌, ◌-◌, ◌<◌, ◌≤◌, [], IfOk, IfSome, replicate, length, slice_get, slice_index_or, Some};
+ghost use Rattle.std.specs.Prelude.{ℕ, List, map, filter, take, drop, count_by, sum_by};
+ghost use Rattle.gj_compact.specs.Blocks.{lets_through, moments_between, AreBounds};
 ghost use Rattle.gj_compact.specs.declared.lane.Row.{Row};
 ghost use Rattle.gj_compact.specs.Lanes.{run_of, pushed, popped, noted, opened, emptied, wanted, want_of, row_run, AreLaid};
 
 use crate::cells::Cells;
 use crate::edge::End;
-use gj_base::Memory;
+use gj_base::{Mask, Memory};
 use std::alloc::Global;
 use std::marker::Model;
 
@@ -121,7 +122,45 @@ impl Lane {
         requires index { i < length (run_of self.now.runs v) }
         ensures { IfSome (slice_get (run_of self.now.runs v) i) (λ end. result ≡ end.vertex) }
     {
-        self.cells.vertex((self.rows[v as usize].start + i) as usize)
+        self.cells
+            .vertex((self.rows[v as usize].start + i) as usize)
+    }
+
+    /// How many of the ends from one index up to another the mask lets through.
+    pub fn count(&self, v: u32, from: u32, to: u32, mask: Mask) -> u32
+        requires vertex { v < length self.now.runs }
+        requires order { from ≤ to }
+        requires inside { to ≤ length (run_of self.now.runs v) }
+        ensures exact { result ≡ count_by (lets_through mask) (take (to - from) (drop from (run_of self.now.runs v))) }
+        ensures in_range { result ≤ to - from }
+    {
+        let start = self.rows[v as usize].start;
+        self.cells
+            .count((start + from) as usize, (start + to) as usize, mask) as u32
+    }
+
+    /// One of the ends that the mask lets through, by its index among them.
+    pub fn nth(&self, v: u32, mask: Mask, i: u32) -> End
+        requires vertex { v < length self.now.runs }
+        requires index { i < count_by (lets_through mask) (run_of self.now.runs v) }
+        ensures { slice_get (filter (lets_through mask) (run_of self.now.runs v)) i ≡ Some result }
+    {
+        let row = self.rows[v as usize];
+        let from = row.start as usize;
+        self.cells
+            .nth(from, from + row.len as usize, mask, i as usize)
+    }
+
+    /// The least and the greatest moment of the ends from one index up to another.
+    pub fn bounds(&self, v: u32, from: u32, to: u32) -> (u64, u64)
+        requires vertex { v < length self.now.runs }
+        requires some { from < to }
+        requires inside { to ≤ length (run_of self.now.runs v) }
+        ensures { AreBounds (moments_between from to (run_of self.now.runs v)) result.0 result.1 }
+    {
+        let start = self.rows[v as usize].start;
+        self.cells
+            .bounds((start + from) as usize, (start + to) as usize)
     }
 
     /// Notes that the vertex will have one more end.

@@ -9,6 +9,8 @@ mod compact_segment;
 mod edge;
 mod lane;
 mod part;
+#[cfg(test)]
+mod tests;
 mod turns;
 mod view;
 

@@ -64,4 +64,56 @@ impl SegmentView for CompactSegment {
     fn total(&self, mask: Mask) -> u32 {
         total_in(&self.edges, mask) as u32
     }
+
+    fn count_of(&self, side: Side, v: u32, mask: Mask) -> u32 {
+        if mask == Mask::all() {
+            return self.degree(side, v);
+        }
+        let part = part_of(side, &self.users, &self.posts);
+        let degree = part.lane.degree(v);
+        part.lane.count(v, 0, degree, mask)
+    }
+
+    fn nth_of(&self, side: Side, v: u32, mask: Mask, i: u32) -> (u32, Kind) {
+        if mask == Mask::all() {
+            return self.edge(side, v, i);
+        }
+        let end = part_of(side, &self.users, &self.posts).lane.nth(v, mask, i);
+        (end.vertex, end.kind)
+    }
+}
+
+impl CompactSegment {
+    ghost use Rattle.std.specs.Prelude.{◌≡◌, ◌*◌, ◌<◌, ◌≤◌, length, count_by};
+    ghost use Rattle.gj_base.specs.Ends.{ends};
+    ghost use Rattle.gj_base.specs.Kinds.{all_kinds};
+    ghost use Rattle.gj_base.specs.Numbered.{numbered, vertices_of, dated_ends, lets_end};
+    ghost use Rattle.gj_compact.specs.Blocks.{block_of, moments_of, AreBounds};
+
+    /// How many of the interactions at the vertex, of those at the indexes from `64 * block` to `64 * block + 63`, the mask
+    /// lets through.
+    pub fn block_count(&self, side: Side, v: u32, block: u32, mask: Mask) -> u32
+        requires vertex { v < length (vertices_of self.now.items side) }
+        requires begun { 64 * block < length (ends (numbered self.now.items) side v all_kinds) }
+        ensures exact { result ≡ count_by (lets_end mask) (block_of block (dated_ends (numbered self.now.items) side v)) }
+        ensures in_range { result ≤ 64 }
+    {
+        let part = part_of(side, &self.users, &self.posts);
+        let degree = part.lane.degree(v);
+        let from = 64 * block;
+        part.lane.count(v, from, degree.min(from + 64), mask)
+    }
+
+    /// The least and the greatest moment of the interactions at the vertex, of those at the indexes from `64 * block` to
+    /// `64 * block + 63`.
+    pub fn block_moments(&self, side: Side, v: u32, block: u32) -> (u64, u64)
+        requires vertex { v < length (vertices_of self.now.items side) }
+        requires begun { 64 * block < length (ends (numbered self.now.items) side v all_kinds) }
+        ensures { AreBounds (moments_of (block_of block (dated_ends (numbered self.now.items) side v))) result.0 result.1 }
+    {
+        let part = part_of(side, &self.users, &self.posts);
+        let degree = part.lane.degree(v);
+        let from = 64 * block;
+        part.lane.bounds(v, from, degree.min(from + 64))
+    }
 }

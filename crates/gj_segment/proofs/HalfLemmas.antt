@@ -1,8 +1,8 @@
 -- What an interaction changes on its side of a segment.
-use Rattle.std.proofs.Common.{◌≡◌, ◌≢◌, ℕ, ◌+◌, ◌<◌, ◌≤◌, List, [], ◌∷◌, ◌++◌, length, get_or, map, replicate, Some, arith, ap, refl, sym, subst, ◌∙◌, inl, inr, length-append}
+use Rattle.std.proofs.Common.{◌≡◌, ℕ, ◌+◌, ◌<◌, ◌≤◌, List, [], ◌∷◌, ◌++◌, length, get_or, replicate, Some, arith, ap, refl, sym, subst, ◌∙◌, inl, inr}
 use Rattle.std.proofs.lemmas.Bool.{cases_eq, cases_lt}
 use Rattle.std.proofs.lemmas.List.{map-append, length_push, get_or_append_left, get_or_push, length-replicate, get_or-replicate, same_lists, length-map, get_or-map}
-use Rattle.gj_base.specs.Firsts.{firsts, place_of, with_id, HasNoRepeat}
+use Rattle.gj_base.specs.Firsts.{firsts, place_of, with_id}
 use Rattle.gj_base.proofs.FirstLemmas.{place_of-Some, get_or-with_id, length-with_id, firsts-push, firsts-nil, length-firsts}
 use Rattle.gj_ids.specs.Numbering.{Numbering, IsNumbering}
 use Rattle.gj_pool.specs.Lists.{cells_of, appended}

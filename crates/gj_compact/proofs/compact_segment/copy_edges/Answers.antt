@@ -1,4 +1,4 @@
-use Rattle.std.proofs.Common.{◌≡◌, ◌<◌, ◌≤◌, List, [], ◌∷◌, ◌++◌, length, map, take, get_or, ap, sym, ◌∙◌, arith}
+use Rattle.std.proofs.Common.{◌≡◌, ◌<◌, List, [], ◌∷◌, ◌++◌, length, map, take, get_or, ap, sym, ◌∙◌, arith}
 use Rattle.std.proofs.lemmas.List.{map-append, take_more, take_all}
 use Rattle.std.proofs.lemmas.Option.{get_or_from_slice_get}
 use Rattle.gj_base.specs.declared.item.Item.{Item}
@@ -17,7 +17,7 @@ loop-i-preserved g c =
     record {
       items = ap (map plain) c.push_within.ensures.items ∙ (map-append plain c.loop-i.edges.items (edge ∷ [])
           ∙ (ap (λ (l : List Item). l ++ plain edge ∷ []) c.loop-i.invariant.items
-              ∙ sym (take_more (numbered items) c.loop-i.i (plain edge) below ∙ ap (λ (x : Item). take c.loop-i.i (numbered items) ++ x ∷ []) here)));
+          ∙ sym (take_more (numbered items) c.loop-i.i (plain edge) below ∙ ap (λ (x : Item). take c.loop-i.i (numbered items) ++ x ∷ []) here)));
       capacity = omega (arith, c.loop-i.invariant.capacity, c.push_within.ensures.capacity);
     }
 

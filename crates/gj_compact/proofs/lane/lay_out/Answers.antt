@@ -1,10 +1,9 @@
-use Rattle.std.proofs.Common.{◌≡◌, ◌+◌, ◌<◌, ◌≤◌, length, get_or, take, arith, ap, ◌∙◌}
-use Rattle.std.specs.List.{sum_by}
+use Rattle.std.proofs.Common.{◌≡◌, ◌<◌, length, get_or, arith, ap, ◌∙◌}
 use Rattle.std.proofs.lemmas.List.{get_or_default}
 use Rattle.std.proofs.lemmas.List.Sums.{sum_by_more, sum_by_more_le}
 use Rattle.gj_compact.specs.declared.lane.Row.{Row}
 use Rattle.gj_compact.specs.Lanes.{want_of}
-use Rattle.gj_compact.proofs.OpenLemmas.{laid_more, laid_all, all_runs, all_spare, all_fresh}
+use Rattle.gj_compact.proofs.OpenLemmas.{laid_more, all_runs, all_spare, all_fresh}
 use Rattle.gj_compact.proofs.lane.lay_out.Goals as goal
 
 pub copy_run-requires-clause-to : goal.copy_run-requires-clause-to

@@ -1,5 +1,4 @@
-use Rattle.std.proofs.Common.{◌≡◌, ◌<◌, ℕ, List, length, map, take, get_or, arith, ap, ◌∙◌, length-take}
-use Rattle.std.proofs.lemmas.List.{take_all}
+use Rattle.std.proofs.Common.{ℕ, List, length, map, take, arith, ap, ◌∙◌, length-take}
 use Rattle.gj_base.specs.Firsts.{with_id}
 use Rattle.gj_base.specs.Numbered.{vertices_of}
 use Rattle.gj_base.specs.Ends.{vertex_on}

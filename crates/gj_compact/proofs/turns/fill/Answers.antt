@@ -1,10 +1,10 @@
-use Rattle.std.proofs.Common.{◌≡◌, ◌<◌, ◌∙◌, length, get_or, arith, sym, ap}
+use Rattle.std.proofs.Common.{◌<◌, ◌∙◌, length, get_or, arith, ap}
 use Rattle.std.proofs.lemmas.List.{get_or_default}
 use Rattle.gj_base.specs.declared.kind.Kind.TheVariants.{Click}
 use Rattle.gj_compact.specs.declared.edge.Edge.{Edge}
 use Rattle.gj_compact.specs.declared.edge.End.{End}
 use Rattle.gj_compact.specs.Lanes.{pushed}
-use Rattle.gj_compact.specs.Turns.{near, across}
+use Rattle.gj_compact.specs.Turns.{near}
 use Rattle.gj_compact.proofs.TurnLemmas.{filled_none, filled_room, filled_more}
 use Rattle.gj_compact.proofs.turns.fill.Goals as goal
 

@@ -1,9 +1,9 @@
-use Rattle.std.proofs.Common.{◌≡◌, ◌<◌, ◌≤◌, ◌∙◌, length, get_or, take, arith, ap}
-use Rattle.std.proofs.lemmas.List.{get_or_default, take_all}
+use Rattle.std.proofs.Common.{◌<◌, ◌∙◌, length, get_or, arith, ap}
+use Rattle.std.proofs.lemmas.List.{get_or_default}
 use Rattle.gj_base.specs.declared.kind.Kind.TheVariants.{Click}
 use Rattle.gj_compact.specs.declared.edge.Edge.{Edge}
 use Rattle.gj_compact.specs.Lanes.{noted}
-use Rattle.gj_compact.specs.Turns.{near, ends_of}
+use Rattle.gj_compact.specs.Turns.{near}
 use Rattle.gj_compact.proofs.NoteLemmas.{noted_none, notes_few, noted_more}
 use Rattle.gj_compact.proofs.turns.note_all.Goals as goal
 
@@ -17,8 +17,14 @@ note-requires-clause-few c =
     let x : Edge = get_or edges c.loop-edge.edge-index d in
     let so = c.loop-edge.invariant in
     let within : near c.args.side x < length c.loop-edge.lane.fresh = omega (arith, c.requires.known c.loop-edge.edge-index d c.loop-edge-test.true, so.wide, c.requires.wide) in
-    omega (arith, notes_few c.loop-edge.lane.fresh (near c.args.side x) within, so.total, c.requires.few, c.loop-edge-test.true,
-    ap (λ n. get_or c.loop-edge.lane.fresh n 0) c.near.ensures)
+    omega (
+      arith,
+      notes_few c.loop-edge.lane.fresh (near c.args.side x) within,
+      so.total,
+      c.requires.few,
+      c.loop-edge-test.true,
+      ap (λ n. get_or c.loop-edge.lane.fresh n 0) c.near.ensures,
+    )
 
 pub loop-edge-preserved : goal.loop-edge-preserved
 loop-edge-preserved c =

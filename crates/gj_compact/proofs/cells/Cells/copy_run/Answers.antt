@@ -1,8 +1,7 @@
-use Rattle.std.proofs.Common.{◌≡◌, ◌≤◌, ◌+◌, ℕ, List, length, take, drop, ap, sym, ◌∙◌, arith}
+use Rattle.std.proofs.Common.{◌≡◌, ℕ, List, length, take, drop, ap, sym, ◌∙◌, arith}
 use Rattle.std.proofs.lemmas.List.{with_items_is}
 use Rattle.gj_base.specs.declared.kind.Kind.{Kind}
 use Rattle.gj_compact.specs.declared.edge.End.{End}
-use Rattle.gj_compact.specs.Cells.{joined}
 use Rattle.gj_compact.proofs.CellLemmas.{length-joined, run-joined, front-joined}
 use Rattle.gj_compact.proofs.cells.Cells.copy_run.Goals as goal
 
@@ -45,11 +44,11 @@ returns-clause-copied c =
     let eks = with_items_is c.self.inside.kinds ks (omega (arith, c.copy_part-2.auto.back, c.deref_mut-2.ensures.len)) in
     let eats = with_items_is c.self.inside.moments ats (omega (arith, c.copy_part-3.auto.back, c.deref_mut-3.ensures.len)) in
     rw (evs, eks, eats) (
-      run-joined c.cells.inside.vertices.items vs c.cells.inside.kinds.items ks c.cells.inside.moments.items ats c.args.to c.args.from c.args.len
-      (c.copy_part.ensures.copied ∙ ap (λ (l : List ℕ). take c.args.len (drop c.args.from l)) c.deref.ensures.value)
-      (c.copy_part-2.ensures.copied ∙ ap (λ (l : List Kind). take c.args.len (drop c.args.from l)) c.deref-2.ensures.value)
-      (c.copy_part-3.ensures.copied ∙ ap (λ (l : List ℕ). take c.args.len (drop c.args.from l)) c.deref-3.ensures.value)
-      ∙ ap (λ (l : List End). take c.args.len (drop c.args.from l)) c.cells.view_is)
+    run-joined c.cells.inside.vertices.items vs c.cells.inside.kinds.items ks c.cells.inside.moments.items ats c.args.to c.args.from c.args.len
+    (c.copy_part.ensures.copied ∙ ap (λ (l : List ℕ). take c.args.len (drop c.args.from l)) c.deref.ensures.value)
+    (c.copy_part-2.ensures.copied ∙ ap (λ (l : List Kind). take c.args.len (drop c.args.from l)) c.deref-2.ensures.value)
+    (c.copy_part-3.ensures.copied ∙ ap (λ (l : List ℕ). take c.args.len (drop c.args.from l)) c.deref-3.ensures.value)
+    ∙ ap (λ (l : List End). take c.args.len (drop c.args.from l)) c.cells.view_is)
 
 pub returns-clause-before : goal.returns-clause-before
 returns-clause-before c =
@@ -60,11 +59,11 @@ returns-clause-before c =
     let eks = with_items_is c.self.inside.kinds ks (omega (arith, c.copy_part-2.auto.back, c.deref_mut-2.ensures.len)) in
     let eats = with_items_is c.self.inside.moments ats (omega (arith, c.copy_part-3.auto.back, c.deref_mut-3.ensures.len)) in
     rw (evs, eks, eats) (
-      front-joined c.self.inside.vertices.items vs c.self.inside.kinds.items ks c.self.inside.moments.items ats c.args.to
-      (c.copy_part.ensures.before ∙ ap (take c.args.to) c.deref_mut.ensures.value)
-      (c.copy_part-2.ensures.before ∙ ap (take c.args.to) c.deref_mut-2.ensures.value)
-      (c.copy_part-3.ensures.before ∙ ap (take c.args.to) c.deref_mut-3.ensures.value)
-      ∙ ap (take c.args.to) c.self.view_is)
+    front-joined c.self.inside.vertices.items vs c.self.inside.kinds.items ks c.self.inside.moments.items ats c.args.to
+    (c.copy_part.ensures.before ∙ ap (take c.args.to) c.deref_mut.ensures.value)
+    (c.copy_part-2.ensures.before ∙ ap (take c.args.to) c.deref_mut-2.ensures.value)
+    (c.copy_part-3.ensures.before ∙ ap (take c.args.to) c.deref_mut-3.ensures.value)
+    ∙ ap (take c.args.to) c.self.view_is)
 
 pub returns-clause-long : goal.returns-clause-long
 returns-clause-long c =

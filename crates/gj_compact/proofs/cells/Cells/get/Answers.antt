@@ -1,4 +1,4 @@
-use Rattle.std.proofs.Common.{◌≡◌, ◌<◌, List, length, slice_get, ap, sym, ◌∙◌, arith}
+use Rattle.std.proofs.Common.{List, length, slice_get, ap, sym, ◌∙◌, arith}
 use Rattle.gj_compact.specs.declared.edge.End.{End}
 use Rattle.gj_compact.proofs.CellLemmas.{length-joined, get-joined}
 use Rattle.gj_compact.proofs.cells.Cells.get.Goals as goal

@@ -1,4 +1,4 @@
-use Rattle.std.proofs.Common.{◌≡◌, length, ap, arith}
+use Rattle.std.proofs.Common.{length, ap, arith}
 use Rattle.gj_compact.proofs.CellLemmas.{length-joined}
 use Rattle.gj_compact.proofs.cells.Cells.len.Goals as goal
 

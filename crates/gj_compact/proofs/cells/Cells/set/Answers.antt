@@ -1,4 +1,4 @@
-use Rattle.std.proofs.Common.{◌≡◌, ◌<◌, List, length, set, ap, ◌∙◌, arith}
+use Rattle.std.proofs.Common.{List, length, set, ap, ◌∙◌, arith}
 use Rattle.gj_compact.specs.declared.edge.End.{End}
 use Rattle.gj_compact.proofs.CellLemmas.{length-joined, set-joined}
 use Rattle.gj_compact.proofs.cells.Cells.set.Goals as goal

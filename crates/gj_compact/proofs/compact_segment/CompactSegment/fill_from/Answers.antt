@@ -1,8 +1,7 @@
-use Rattle.std.proofs.Common.{◌≡◌, ℕ, ◌<◌, ◌≤◌, List, length, map, ap, sym, subst, ◌∙◌, arith}
+use Rattle.std.proofs.Common.{List, ap, subst, ◌∙◌, arith}
 use Rattle.gj_base.specs.declared.side.Side.TheVariants.{User, Post}
-use Rattle.gj_compact.specs.declared.part.Part.{Part}
 use Rattle.gj_compact.specs.declared.edge.Edge.{Edge}
-use Rattle.gj_compact.specs.Compact.{Segment, IsRoomy, HasEnds}
+use Rattle.gj_compact.specs.Compact.{Segment, IsRoomy}
 use Rattle.gj_compact.specs.Turns.{ends_of}
 use Rattle.gj_compact.proofs.CompactLemmas.{compact_of, shown_is}
 use Rattle.gj_compact.proofs.compact_segment.CompactSegment.fill_from.Goals as goal

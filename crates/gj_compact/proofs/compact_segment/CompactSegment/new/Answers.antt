@@ -1,12 +1,7 @@
-use Rattle.std.proofs.Common.{◌≡◌, ℕ, ◌<◌, List, [], length, map, ap, sym, ◌∙◌, arith}
-use Rattle.gj_base.specs.declared.side.Side.{Side}
+use Rattle.std.proofs.Common.{List, [], map, ap, sym, ◌∙◌, arith}
 use Rattle.gj_base.specs.declared.side.Side.TheVariants.{User, Post}
-use Rattle.gj_base.specs.declared.item.Item.{Item}
-use Rattle.gj_base.specs.Numbered.{numbered, vertices_of}
 use Rattle.gj_base.proofs.FirstLemmas.{firsts-nil}
 use Rattle.gj_compact.specs.declared.edge.Edge.{Edge}
-use Rattle.gj_compact.specs.declared.edge.End.{End}
-use Rattle.gj_compact.specs.Lanes.{run_of}
 use Rattle.gj_compact.specs.Turns.{plain, ends_of}
 use Rattle.gj_compact.proofs.CompactLemmas.{compact_of, run_none, numbered-nil}
 use Rattle.gj_compact.proofs.compact_segment.CompactSegment.new.Goals as goal

@@ -1,4 +1,4 @@
-use Rattle.std.proofs.Common.{◌≡◌, ◌≤◌, List, length, map, arith, ap, ◌∙◌}
+use Rattle.std.proofs.Common.{List, map, arith, ap, ◌∙◌}
 use Rattle.std.specs.List.{sum_by}
 use Rattle.std.proofs.lemmas.List.{with_items_is}
 use Rattle.gj_compact.specs.declared.lane.Row.{Row}
@@ -11,8 +11,15 @@ pub lay_out-requires-clause-fits : goal.lay_out-requires-clause-fits
 lay_out-requires-clause-fits c =
     let rows = c.self.inside.rows.items in
     let cells = c.self.inside.cells in
-    omega (arith, c.requires, wanted_is rows cells c.self.invariant.laid.within, ap wanted c.self.view_is, ap (λ (l : Laned). l.room) c.self.view_is,
-    ap (sum_by want_of) c.deref_mut.ensures.value, c.self.invariant.same)
+    omega (
+      arith,
+      c.requires,
+      wanted_is rows cells c.self.invariant.laid.within,
+      ap wanted c.self.view_is,
+      ap (λ (l : Laned). l.room) c.self.view_is,
+      ap (sum_by want_of) c.deref_mut.ensures.value,
+      c.self.invariant.same,
+    )
 
 pub returns : goal.returns
 returns c =
@@ -22,9 +29,9 @@ returns c =
     let back' : List End = c.lay_out.new.back in
     let rows_are = with_items_is c.self.inside.rows rows' (omega (arith, c.lay_out.auto.rows, c.deref_mut.ensures.len)) in
     ap (λ (l : List Row). shown_by l c.swap.new.x) rows_are ∙ (ap (shown_by rows') c.swap.ensures.x_after
-        ∙ (lane_opened rows rows' cells back'
-            (c.lay_out.ensures.runs ∙ ap (map (row_run cells)) c.deref_mut.ensures.value)
-            (c.lay_out.ensures.spare ∙ ap (map (λ (r : Row). r.fresh)) c.deref_mut.ensures.value)
-            (c.lay_out.ensures.fresh ∙ ap (map (λ (r : Row). 0)) c.deref_mut.ensures.value)
-            (c.lay_out.ensures.long ∙ c.self.invariant.same)
-        ∙ ap opened c.self.view_is))
+    ∙ (lane_opened rows rows' cells back'
+    (c.lay_out.ensures.runs ∙ ap (map (row_run cells)) c.deref_mut.ensures.value)
+    (c.lay_out.ensures.spare ∙ ap (map (λ (r : Row). r.fresh)) c.deref_mut.ensures.value)
+    (c.lay_out.ensures.fresh ∙ ap (map (λ (r : Row). 0)) c.deref_mut.ensures.value)
+    (c.lay_out.ensures.long ∙ c.self.invariant.same)
+    ∙ ap opened c.self.view_is))

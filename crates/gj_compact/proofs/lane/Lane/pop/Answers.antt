@@ -1,4 +1,4 @@
-use Rattle.std.proofs.Common.{◌≡◌, ◌<◌, length, arith, ap, ◌∙◌}
+use Rattle.std.proofs.Common.{◌<◌, length, arith, ap, ◌∙◌}
 use Rattle.std.proofs.lemmas.List.{length-map}
 use Rattle.gj_compact.specs.Lanes.{Laned, popped, row_run, run_of, shown_by}
 use Rattle.gj_compact.proofs.LaneLemmas.{lane_popped}

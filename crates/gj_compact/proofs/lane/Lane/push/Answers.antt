@@ -1,4 +1,4 @@
-use Rattle.std.proofs.Common.{◌≡◌, ◌<◌, length, get_or, set, arith, ap, ◌∙◌}
+use Rattle.std.proofs.Common.{◌<◌, length, get_or, set, arith, ap, ◌∙◌}
 use Rattle.std.proofs.lemmas.List.{length-map}
 use Rattle.gj_compact.specs.Lanes.{Laned, pushed, row_run, shown_by}
 use Rattle.gj_compact.proofs.LaneLemmas.{lane_pushed}

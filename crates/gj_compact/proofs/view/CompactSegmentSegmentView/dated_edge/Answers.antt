@@ -1,4 +1,4 @@
-use Rattle.std.proofs.Common.{◌≡◌, ◌<◌, length, slice_get, ap, sym, ◌∙◌, arith}
+use Rattle.std.proofs.Common.{◌<◌, length, slice_get, ap, sym, ◌∙◌, arith}
 use Rattle.gj_base.specs.Ends.{ends}
 use Rattle.gj_base.specs.Kinds.{all_kinds}
 use Rattle.gj_base.specs.Numbered.{numbered, vertices_of, dated_ends}
@@ -18,8 +18,13 @@ pub get-end-requires-clause-index : goal.get-end-requires-clause-index
 get-end-requires-clause-index c =
     let seen = ap (λ (s : Segment). length (vertices_of s.items c.args.side)) c.self.view_is in
     let below : c.args.v < length (vertices_of (shown_by c.self.inside).items c.args.side) = omega (arith, c.requires.vertex, seen) in
-    omega (arith, c.requires.index, ap (λ (s : Segment). length (ends (numbered s.items) c.args.side c.args.v all_kinds)) c.self.view_is,
-    shown_degree c.self.inside c.args.side c.args.v c.self.invariant below, ap (λ (p : Part). length (run_of p.lane.runs c.args.v)) c.part_of.ensures)
+    omega (
+      arith,
+      c.requires.index,
+      ap (λ (s : Segment). length (ends (numbered s.items) c.args.side c.args.v all_kinds)) c.self.view_is,
+      shown_degree c.self.inside c.args.side c.args.v c.self.invariant below,
+      ap (λ (p : Part). length (run_of p.lane.runs c.args.v)) c.part_of.ensures,
+    )
 
 pub returns : goal.returns
 returns c =

@@ -1,13 +1,10 @@
-use Rattle.std.proofs.Common.{◌≡◌, ◌<◌, ℕ, List, length, ap, sym, ◌∙◌, arith}
-use Rattle.gj_base.specs.declared.item.Item.{Item}
-use Rattle.gj_base.specs.Firsts.{place_of}
+use Rattle.std.proofs.Common.{◌<◌, length, ap, ◌∙◌, arith}
 use Rattle.gj_base.specs.Numbered.{vertices_of, numbered}
 use Rattle.gj_base.specs.Ends.{ends}
 use Rattle.gj_base.specs.Kinds.{all_kinds}
 use Rattle.gj_pool.specs.Lists.{cells_of}
 use Rattle.gj_segment.specs.declared.half.Half.{Half}
-use Rattle.gj_segment.specs.Segment.{Segment, plain, shown_by}
-use Rattle.gj_segment.specs.Sides.{half_on}
+use Rattle.gj_segment.specs.Segment.{Segment, shown_by}
 use Rattle.gj_segment.proofs.SegmentLemmas.{side_room, shown_degree}
 use Rattle.gj_segment.proofs.view.PoolSegmentSegmentView.degree.Goals as goal
 

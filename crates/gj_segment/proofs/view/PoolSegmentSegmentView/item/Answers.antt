@@ -1,14 +1,8 @@
-use Rattle.std.proofs.Common.{◌≡◌, ◌<◌, ℕ, List, length, slice_get, option_map, ap, sym, ◌∙◌, arith, Some}
+use Rattle.std.proofs.Common.{◌<◌, List, length, slice_get, option_map, ap, sym, ◌∙◌, arith, Some}
 use Rattle.std.proofs.lemmas.Option.{slice_get-map, slice_get-get_or}
 use Rattle.gj_base.specs.declared.item.Item.{Item}
-use Rattle.gj_base.specs.Firsts.{place_of}
-use Rattle.gj_base.specs.Numbered.{vertices_of, numbered}
-use Rattle.gj_base.specs.Ends.{ends}
-use Rattle.gj_base.specs.Kinds.{all_kinds}
-use Rattle.gj_pool.specs.Lists.{cells_of}
-use Rattle.gj_segment.specs.declared.half.Half.{Half}
-use Rattle.gj_segment.specs.Segment.{Segment, plain, shown_by}
-use Rattle.gj_segment.specs.Sides.{half_on}
+use Rattle.gj_base.specs.Numbered.{numbered}
+use Rattle.gj_segment.specs.Segment.{Segment, plain}
 use Rattle.gj_segment.specs.declared.edge.Edge.{Edge}
 use Rattle.gj_segment.proofs.SegmentLemmas.{shown_numbered, shown_length}
 use Rattle.gj_segment.proofs.view.PoolSegmentSegmentView.item.Goals as goal

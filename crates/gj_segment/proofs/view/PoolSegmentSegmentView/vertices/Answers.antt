@@ -1,13 +1,7 @@
-use Rattle.std.proofs.Common.{◌≡◌, List, length, ap, sym, ◌∙◌}
-use Rattle.gj_base.specs.declared.item.Item.{Item}
-use Rattle.gj_base.specs.Firsts.{place_of}
-use Rattle.gj_base.specs.Numbered.{vertices_of, numbered}
-use Rattle.gj_base.specs.Ends.{ends}
-use Rattle.gj_base.specs.Kinds.{all_kinds}
-use Rattle.gj_pool.specs.Lists.{cells_of}
+use Rattle.std.proofs.Common.{length, ap, sym, ◌∙◌}
+use Rattle.gj_base.specs.Numbered.{vertices_of}
 use Rattle.gj_segment.specs.declared.half.Half.{Half}
-use Rattle.gj_segment.specs.Segment.{Segment, plain, shown_by}
-use Rattle.gj_segment.specs.Sides.{half_on}
+use Rattle.gj_segment.specs.Segment.{Segment}
 use Rattle.gj_segment.proofs.SegmentLemmas.{side_vertices}
 use Rattle.gj_segment.proofs.view.PoolSegmentSegmentView.vertices.Goals as goal
 

@@ -1,0 +1,217 @@
+//! The cases of a segment, over the form that takes writes and the contiguous one.
+
+ghost use Rattle.std.specs.Prelude.{◌<◌};
+
+use crate::CompactSegment;
+use gj_base::{Item, Kind, Mask, SegmentView, Side, count_in, end_in};
+use gj_segment::PoolSegment;
+use std::process::Abort;
+use std::test::Fail;
+
+fn add(rt: &impl Abort, segment: &mut PoolSegment, user: u64, post: u64, kind: Kind, at: u64) {
+    let item = Item::make(user, post, kind, at).expect(rt, "the numbers are small");
+    assert!(rt; !segment.is_full());
+    segment.add(item);
+}
+
+/// One of the ends of a vertex, by its identifier.
+fn end_at<V: SegmentView>(
+    rt: &impl Abort,
+    segment: &V,
+    side: Side,
+    id: u64,
+    mask: Mask,
+    i: u32,
+) -> u64 {
+    assert!(rt; i < count_in(segment, side, id, mask), "end {i} of {id}");
+    end_in(segment, side, id, mask, i).0
+}
+
+/// The kind of the edge `i`: each fourth one is a reply.
+fn kind_of(i: u32) -> Kind {
+    if i % 4 == 3 { Kind::Reply } else { Kind::Click }
+}
+
+/// User 5 has `count` edges, to the posts from 100 on, two at each moment.
+fn is_one_long_list<V: SegmentView>(rt: &impl Abort, segment: &V, count: u32)
+    requires { 59 < count }
+{
+    let all = Mask::all();
+    assert_eq!(rt;
+        (
+            segment.len(),
+            segment.vertices(Side::User),
+            segment.vertices(Side::Post)
+        ),
+        (count, 1, count)
+    );
+    for i in 0..count {
+        let post = 100 + u64::from(i);
+        assert_eq!(rt; end_at(rt, segment, Side::User, 5, all, i), post);
+        assert_eq!(rt;
+            end_at(rt, segment, Side::Post, post, Mask::one(kind_of(i)), 0),
+            5
+        );
+    }
+    let reply = Mask::one(Kind::Reply);
+    for (mask, eligible) in [
+        (reply, 15),
+        (all.from_moment(30), count - 60),
+        (reply.from_moment(29), 1),
+        (all.from_moment(32), 0),
+        (Mask::one(Kind::Tweet), 0),
+    ] {
+        assert_eq!(rt; count_in(segment, Side::User, 5, mask), eligible);
+        assert_eq!(rt; segment.total(mask), eligible);
+    }
+    assert_eq!(rt; end_at(rt, segment, Side::User, 5, reply, 14), 159);
+    assert_eq!(rt;
+        end_at(rt, segment, Side::User, 5, reply.from_moment(29), 0),
+        159
+    );
+    assert_eq!(rt;
+        end_at(rt, segment, Side::User, 5, all.from_moment(30), 1),
+        161
+    );
+}
+
+#[test]
+fn both_forms_find_each_edge_of_a_long_list(rt: HostRuntime) -> Result<(), Fail> {
+    for count in [62, 63] {
+        let mut pool = PoolSegment::new(rt.alloc(), 63)?;
+        let mut compact = CompactSegment::new(rt.alloc(), 63)?;
+        for i in 0..count {
+            add(
+                &rt,
+                &mut pool,
+                5,
+                u64::from(100 + i),
+                kind_of(i),
+                u64::from(i / 2),
+            );
+        }
+        is_one_long_list(&rt, &pool, count);
+        assert!(rt; pool.len() < 64);
+        compact.fill_from(&pool);
+        is_one_long_list(&rt, &compact, count);
+    }
+    Ok(())
+}
+
+/// Users 3 and 9 share posts 30 and 31.
+fn is_a_square<V: SegmentView>(rt: &impl Abort, segment: &V) {
+    assert_eq!(rt;
+        (
+            segment.number_of(Side::User, 9),
+            segment.number_of(Side::Post, 3)
+        ),
+        (Some(1), None)
+    );
+    for (i, post) in [(0, 30), (1, 31), (2, 30)] {
+        assert_eq!(rt; end_at(rt, segment, Side::User, 3, Mask::all(), i), post);
+    }
+    for (i, user) in [(0, 3), (1, 9), (2, 3)] {
+        assert_eq!(rt; end_at(rt, segment, Side::Post, 30, Mask::all(), i), user);
+    }
+    assert_eq!(rt; segment.len(), 4);
+    assert_eq!(rt; segment.item(2), (0, 1, Kind::Favorite, 8));
+}
+
+#[test]
+fn repeated_edges_stay_and_nothing_stays_of_a_longer_list(rt: HostRuntime) -> Result<(), Fail> {
+    let mut pool = PoolSegment::new(rt.alloc(), 16)?;
+    let mut compact = CompactSegment::new(rt.alloc(), 16)?;
+    for i in 0..16 {
+        add(&rt, &mut pool, 9 + i % 3, 31 - i, Kind::Click, i);
+    }
+    assert!(rt; pool.len() < 17);
+    compact.fill_from(&pool);
+    assert_eq!(rt; end_at(&rt, &compact, Side::User, 10, Mask::all(), 4), 18);
+    pool.clear();
+    for (user, post) in [(3, 30), (9, 30), (3, 31), (3, 30)] {
+        add(&rt, &mut pool, user, post, Kind::Favorite, 8);
+    }
+    is_a_square(&rt, &pool);
+    assert!(rt; pool.len() < 17);
+    compact.fill_from(&pool);
+    is_a_square(&rt, &compact);
+    Ok(())
+}
+
+fn reply_of(rt: &impl Abort, compact: &CompactSegment, block: u32) -> u32 {
+    assert!(rt; compact.vertices(Side::User) > 0);
+    assert!(rt; block < 1024);
+    assert!(rt; 64 * block < compact.degree(Side::User, 0));
+    compact.block_count(Side::User, 0, block, Mask::one(Kind::Reply))
+}
+
+#[test]
+fn the_replies_of_65536_edges_are_found_one_by_one(rt: HostRuntime) -> Result<(), Fail> {
+    let mut pool = PoolSegment::new(rt.alloc(), 65536)?;
+    let mut compact = CompactSegment::new(rt.alloc(), 65536)?;
+    for i in 0..65536 {
+        let kind = Kind::from_number(i % 5).expect(&rt, "there are five kinds");
+        add(&rt, &mut pool, 1, 10, kind, 0);
+    }
+    assert!(rt; pool.len() < 65537);
+    compact.fill_from(&pool);
+    let reply = Mask::one(Kind::Reply);
+    assert_eq!(rt; (pool.total(reply), compact.total(reply)), (13107, 13107));
+    assert!(rt; compact.vertices(Side::User) > 0);
+    assert_eq!(rt; compact.count_of(Side::User, 0, reply), 13107);
+    for i in 0..13107 {
+        assert_eq!(rt; compact.nth_of(Side::User, 0, reply, i), (0, Kind::Reply));
+    }
+    for (block, replies) in [(0, 13), (1, 12), (1023, 13)] {
+        assert_eq!(rt; reply_of(&rt, &compact, block), replies, "block {block}");
+    }
+    Ok(())
+}
+
+fn bounds_of(rt: &impl Abort, compact: &CompactSegment, block: u32) -> (u64, u64) {
+    assert!(rt; compact.vertices(Side::User) > 0);
+    assert!(rt; block < 1024);
+    assert!(rt; 64 * block < compact.degree(Side::User, 0));
+    compact.block_moments(Side::User, 0, block)
+}
+
+#[test]
+fn a_block_has_the_moments_of_its_64_edges(rt: HostRuntime) -> Result<(), Fail> {
+    let mut pool = PoolSegment::new(rt.alloc(), 300)?;
+    let mut compact = CompactSegment::new(rt.alloc(), 300)?;
+    for i in 0..300 {
+        let at = if i < 100 {
+            i
+        } else if i < 200 {
+            200 - i
+        } else {
+            150
+        };
+        add(&rt, &mut pool, 1, i, Kind::Click, at);
+    }
+    assert!(rt; pool.len() < 301);
+    compact.fill_from(&pool);
+    for (block, bounds) in [
+        (0, (0, 63)),
+        (1, (64, 100)),
+        (2, (9, 72)),
+        (3, (1, 150)),
+        (4, (150, 150)),
+    ] {
+        assert_eq!(rt; bounds_of(&rt, &compact, block), bounds, "block {block}");
+    }
+    for (moment, eligible) in [
+        (0, 300),
+        (1, 299),
+        (100, 101),
+        (101, 100),
+        (150, 100),
+        (151, 0),
+    ] {
+        assert_eq!(rt;
+            count_in(&compact, Side::User, 1, Mask::all().from_moment(moment)),
+            eligible
+        );
+    }
+    Ok(())
+}
