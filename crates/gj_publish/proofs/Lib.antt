@@ -2,3 +2,4 @@ pub mod Counting
 pub mod Growing
 pub mod Histories
 pub mod Panes
+pub mod Resuming

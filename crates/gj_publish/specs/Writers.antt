@@ -3,7 +3,7 @@ use Rattle.std.specs.Prelude.{◌≡◌, ℕ, ◌+◌, ◌<◌, ◌==◌, Bool, 
 use Rattle.gj_base.specs.declared.history.History.{History}
 use Rattle.gj_base.specs.declared.item.Entry.{Entry}
 use Rattle.gj_base.specs.Configuration.{Configuration}
-use Rattle.gj_base.specs.History.{Begins, entries_by, extend, items_of, length_of}
+use Rattle.gj_base.specs.History.{Begins, entries_by, extend, items_of, length_of, window}
 use Rattle.gj_base.specs.Kept.{Kept}
 use Rattle.gj_keep.specs.Books.{BookView, BookKeeps, KeepsFrom}
 use Rattle.gj_publish.specs.Posted.{BatchView}
@@ -54,3 +54,8 @@ pub record IsGrown (known : Option History) (conf : Configuration) (start total 
 pub record IsCounted (seats : ℕ) (counted : List ℕ) (accepted : History) : Type 0 where
   pub all : length counted ≡ seats
   pub each : (i : ℕ) → i < seats → slice_index_or counted i 0 ≡ by_seat (i + 1) accepted
+
+-- the histories have one length and one window: an index that begins with the first answers as one that went on with the second
+pub record Resumes (conf : Configuration) (g h : History) : Type 0 where
+  pub same_length : length_of g ≡ length_of h
+  pub same_window : window conf.capacity conf.segments g ≡ window conf.capacity conf.segments h

@@ -1,14 +1,17 @@
 //! Opening an index.
-ghost use Rattle.std.specs.Prelude.{◌≡◌, ◌+◌, ◌<◌, ◌≤◌, ◌^◌, [], ◌∷◌, ℕ, List, false, length, replicate, slice_index_or, IfOk, IfErr, IsTrue};
+ghost use Rattle.std.specs.Prelude.{◌≡◌, ◌≢◌, ◌⊎◌, ◌+◌, ◌<◌, ◌≤◌, ◌^◌, [], ◌∷◌, ℕ, List, false, length, replicate, slice_index_or, IfOk, IfErr, OnOk, IsTrue, MatchResult, None};
 ghost use Rattle.left_right.specs.Handles.{published, pending};
+ghost use Rattle.gj_base.specs.declared.history.History.{History};
+ghost use Rattle.gj_base.specs.declared.keeper.KeptConf.{KeptConf};
 ghost use Rattle.gj_base.specs.declared.keeper.KeptItem.{KeptItem};
 ghost use Rattle.gj_base.specs.Causes.{Rose};
 ghost use Rattle.gj_base.specs.History.{StandsFor, conf_of, empty_history, length_of};
-ghost use Rattle.gj_keep.specs.declared.opening.OpenError.TheVariants.{Store, Place};
-ghost use Rattle.gj_keep.specs.Books.{told_rows};
-ghost use Rattle.gj_keep.specs.Openings.{IsLeft, opening_of};
+ghost use Rattle.gj_keep.specs.declared.opening.OpenError.TheVariants.{Memory, Store, ConfDiffers, Place};
+ghost use Rattle.gj_keep.specs.Books.{Keeps, told_rows};
+ghost use Rattle.gj_keep.specs.Openings.{IsLeft, IsPrepared, MayRefuse, due, faults_at, opening_of};
 ghost use Rattle.gj_keep.specs.Rows.{opened};
 ghost use Rattle.gj_publish.specs.Seats.{no_numbers};
+ghost use Rattle.gj_publish.specs.Writers.{Resumes};
 
 use crate::batch::Batch;
 use crate::counted::Counted;
@@ -43,7 +46,8 @@ fn seated<J: Opening, W: Grow + Drop, R: Wait + Drop>(
     ensures all { IfOk result (λ seats. length seats.items ≡ places) }
     ensures each { IfOk result (λ seats. (i : ℕ) (d : _) → i < places → slice_index_or seats.items i d ≡ record { number = i + 1; front = front.now; posted = 0; numbers = no_numbers }) }
     ensures same { IfOk result (λ _. grants.new ≡ grants.old) }
-    ensures err { IfErr result (λ why. (why ≡ Store → ⊥) × (why ≡ Place → grants.new ≡ grants.old + 1)) }
+    ensures err { IfErr result (λ why. (why ≡ Memory) ⊎ (why ≡ Place)) }
+    ensures place { IfErr result (λ why. why ≡ Place → grants.new ≡ grants.old + 1) }
     ensures later { grants.old ≤ grants.new }
 {
     let Ok(mut seats) = Vec::with_capacity(alloc, places as usize) else {
@@ -99,7 +103,8 @@ fn parts_of<J: Opening, W: Grow + Drop, R: Wait + Drop>(
     ensures all { IfOk result (λ r. length r.seats.items ≡ places) }
     ensures each { IfOk result (λ r. (i : ℕ) (d : _) → i < places → slice_index_or r.seats.items i d ≡ record { number = i + 1; front = opened rows.now.value.items; posted = 0; numbers = no_numbers }) }
     ensures same { IfOk result (λ _. grants.new ≡ grants.old) }
-    ensures err { IfErr result (λ why. (why ≡ Store → ⊥) × (why ≡ Place → grants.new ≡ grants.old + 1)) }
+    ensures err { IfErr result (λ why. (why ≡ Memory) ⊎ (why ≡ Place)) }
+    ensures place { IfErr result (λ why. why ≡ Place → grants.new ≡ grants.old + 1) }
     ensures later { grants.old ≤ grants.new }
 {
     let Naming { blank, history } = naming;
@@ -144,7 +149,8 @@ fn pair_of<W: Drop>(mut graphs: Vec<W>) -> (W, W)
 }
 
 /// Opens an index over a keeper: the writer, and its seats with the numbers 1 to `places`. The caller is generic over
-/// the opening `J`, and is called with `Brand`. It takes all memory of both copies.
+/// the opening `J`, and is called at `Brand`, with the members that the first clauses name. It takes all memory of both
+/// copies.
 pub fn open_index<J: Opening, K: Keeper + Drop, W: Grow + Drop, R: Wait + Drop>(
     rt: R,
     alloc: Global,
@@ -163,17 +169,30 @@ pub fn open_index<J: Opening, K: Keeper + Drop, W: Grow + Drop, R: Wait + Drop>(
     requires conf { conf ≡ J.conf }
     requires opening { J.opening ≡ opening_of (K.kept keeper) }
 
+    // Ok: the history is that of the rows that were read, all of it is published, and each seat has seen it.
     ensures rows { IfOk result (λ r. (rows : List KeptItem) × (r.0.accepted ≡ opened rows)) }
     ensures told { IsTrue (K.kept keeper).tells → IfOk result (λ r. r.0.accepted ≡ opened (told_rows (K.kept keeper))) }
     ensures bare { IsTrue (K.kept keeper).bare → IfOk result (λ r. r.0.accepted ≡ empty_history 0) }
     ensures published { IfOk result (λ r. (r.0.published ≡ r.0.accepted) × (r.0.start ≡ length_of r.0.accepted)) }
     ensures all { IfOk result (λ r. length r.1.items ≡ places) }
     ensures each { IfOk result (λ r. (i : ℕ) (d : _) → i < places → slice_index_or r.1.items i d ≡ record { number = i + 1; front = r.0.accepted; posted = 0; numbers = no_numbers }) }
-    ensures ok_later { IfOk result (λ r. K.faults keeper ≤ r.0.faults) }
+    ensures kept { IfOk result (λ r. IsPrepared conf (K.kept keeper) r.0.kept) }
 
-    ensures err { IfErr result (λ r. IsLeft conf (K.kept keeper) (K.kept r.keeper) × (K.faults keeper ≤ K.faults r.keeper)) }
-    ensures store { IfErr result (λ r. r.why ≡ Store → Rose (K.faults keeper) (K.faults r.keeper)) }
+    // `Place` comes only where the number of grants rose. Every other refusal is one of opening a book.
     ensures place { IfErr result (λ r. r.why ≡ Place → grants.new ≡ grants.old + 1) }
+    ensures ok { IsTrue (K.kept keeper).tells → OnOk result (due conf (K.kept keeper) ≡ None) }
+    ensures refused { IsTrue (K.kept keeper).tells → IfErr result (λ r. r.why ≢ Place → MayRefuse (due conf (K.kept keeper)) r.why) }
+    ensures bare_refused { IsTrue (K.kept keeper).bare → IfErr result (λ r. r.why ≢ Place → MayRefuse None r.why) }
+    ensures count { MatchResult result (λ r. r.0.faults ≡ K.faults keeper) (λ r. K.faults r.keeper ≡ faults_at r.why (K.faults keeper)) }
+    ensures cause { IfErr result (λ r. (K.faults keeper ≤ K.faults r.keeper) × (r.why ≡ Store → Rose (K.faults keeper) (K.faults r.keeper))) }
+
+    // What a refusal leaves: the keeper, as it was or prepared.
+    ensures err { IfErr result (λ r. IsLeft conf (K.kept keeper) (K.kept r.keeper)) }
+    ensures differs { IfErr result (λ r. (old now : KeptConf) → r.why ≡ ConfDiffers old now → K.kept r.keeper ≡ K.kept keeper) }
+
+    // A history that the keeper keeps, whatever call failed last before, is resumed, or still kept.
+    ensures again { (h : History) → IsTrue (K.kept keeper).tells → Keeps conf (K.kept keeper) h → IfOk result (λ r. Resumes conf r.0.accepted h) }
+    ensures again_err { (h : History) → IsTrue (K.kept keeper).tells → Keeps conf (K.kept keeper) h → IfErr result (λ r. Keeps conf (K.kept r.keeper) h × (r.why ≢ Place → MayRefuse None r.why)) }
     ensures later { grants.old ≤ grants.new }
 {
     let (book, graphs, rows) = Book::<K>::open_book::<W>(alloc, conf, keeper, 2)?;
