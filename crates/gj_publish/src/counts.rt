@@ -24,6 +24,7 @@ impl Model for Counts {
 }
 
 impl Counts {
+    /// All are 0.
     pub fn new() -> Counts
         ensures { result ≡ no_numbers }
     {
@@ -36,30 +37,35 @@ impl Counts {
         }
     }
 
+    /// The seat looked.
     pub fn look(&mut self)
         ensures { self.new ≡ looked self.old }
     {
         self.looks = self.looks.saturating_add(1);
     }
 
+    /// A look was refused.
     pub fn refuse_look(&mut self)
         ensures { self.new ≡ not_looked self.old }
     {
         self.refused = self.refused.saturating_add(1);
     }
 
+    /// A post was refused by a fault of the keeper.
     pub fn refuse_store(&mut self)
         ensures { self.new ≡ not_stored self.old }
     {
         self.store = self.store.saturating_add(1);
     }
 
+    /// A post was refused by a full history.
     pub fn refuse_full(&mut self)
         ensures { self.new ≡ not_fitted self.old }
     {
         self.full = self.full.saturating_add(1);
     }
 
+    /// A post was refused since seat and writer do not fit.
     pub fn refuse_apart(&mut self)
         ensures { self.new ≡ not_met self.old }
     {

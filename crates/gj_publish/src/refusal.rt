@@ -4,7 +4,7 @@ use gj_base::Receipt;
 /// Why a look is refused. The seat is as before, but for its number of refused looks, which rose.
 #[derive(Clone, Copy, Debug, Drop, PartialEq, Eq)]
 pub enum NoLook {
-    /// The copies gave no reader. `left_right` states no cause for that.
+    /// The copies gave no reader, as once the writer is gone. `left_right` states no cause.
     Refused,
     /// What is shown has the length `shown`, and the seat saw, or was told of in a post, a longer history.
     Short { seen: u64, shown: u64 },
