@@ -1,0 +1,5 @@
+pub mod Counting
+pub mod Growing
+pub mod Histories
+pub mod Panes
+pub mod Resuming

@@ -1,0 +1,237 @@
+//! The one writer, which lies under a lock.
+ghost use Rattle.std.specs.Prelude.{◌≡◌, ◌+◌, ◌<◌, ◌≤◌, ◌^◌, true, ℕ, length, replicate, IfSome, OnOk, MatchBool};
+ghost use Rattle.std.specs.List.{sum_by};
+ghost use Rattle.gj_base.specs.declared.history.History.{History};
+ghost use Rattle.gj_base.specs.History.{Begins, length_of};
+ghost use Rattle.gj_keep.specs.Books.{BookKeeps, Keeps};
+ghost use Rattle.gj_keep.specs.Rows.{opened};
+ghost use Rattle.gj_publish.specs.Posted.{posted};
+ghost use Rattle.gj_publish.specs.Writers.{ByNoSeat, RowsAre, by_seat};
+
+use crate::batch::Batch;
+use crate::copies::Copies;
+use crate::counted::Counted;
+use crate::seat::Seat;
+use gj_base::{Conf, Graph, Grow, Keeper, KeptItem, Memory};
+use gj_keep::Book;
+use gj_log::{Front, Opening, Scribe};
+use std::alloc::Global;
+use std::marker::Model;
+use std::snapshot::Snapshot;
+use std::sync::ledger::{Book as Ledger, Share};
+
+mod posts;
+
+/// Who accepts batches, keeps them and shows them. Contracts see the accepted history, of which the published one is a
+/// beginning; what is accepted and not published is owed, and is one batch at most. Under a lock its type still says that
+/// the keeper, where it tells its rows, keeps the accepted history, and that what each seat posted is counted.
+#[derive(Drop)]
+pub struct Writer<J: Opening, C: Copies<Operation = Batch<J>>, K: Keeper + Drop> {
+    alloc: Global,
+    start: u64,
+    ledger: Ledger<J>,
+    copies: C,
+    scribe: Scribe<J>,
+    shown: Front<J>,
+    owed: Option<Batch<J>>,
+    book: Book<K>,
+    counted: Counted,
+}
+
+impl<J: Opening, C: Copies<Operation = Batch<J>>, K: Keeper + Drop> Model for Writer<J, C, K> {
+    ghost use Rattle.std.specs.Prelude.{◌≡◌};
+    ghost use Rattle.gj_publish.specs.Posted.{posted};
+    ghost use Rattle.gj_publish.specs.Writers.{WriterView, IsOwed, IsGrown, IsCounted};
+
+    ghost Value = { WriterView };
+
+    ghost view = { λ s. record { start = s.start; published = s.shown; accepted = s.scribe.history; ready = s.scribe.ready; kept = s.book.kept; faults = s.book.faults } };
+
+    ghost invariant = { λ s. C.quiet s.copies × ((h : _) (b : _) → C.applied h b ≡ posted h b) × (C.shown s.copies ≡ s.shown) × IsOwed s.shown s.scribe.history s.owed × IsGrown J.opening J.conf s.start s.ledger.total s.book s.scribe.opening s.scribe.history × IsCounted J.places s.counted s.scribe.history };
+}
+
+impl<J: Opening, C: Copies<Operation = Batch<J>>, K: Keeper + Drop> Writer<J, C, K> {
+    // The writer of an opening, whose copies show what it begins with.
+    pub(crate) fn new(
+        alloc: Global,
+        copies: C,
+        scribe: Scribe<J>,
+        ledger: Ledger<J>,
+        book: Book<K>,
+        counted: Counted,
+        rows: &Snapshot<Vec<KeptItem>>,
+    ) -> Writer<J, C, K>
+        requires ledger { ledger.total ≡ 0 }
+        requires quiet { C.quiet copies }
+        requires posts { (h : _) (b : _) → C.applied h b ≡ posted h b }
+        requires shown { C.shown copies ≡ scribe.history }
+        requires opened { (scribe.history ≡ opened rows.now.value.items) × (scribe.opening ≡ opened rows.now.value.items) }
+        requires keeps { BookKeeps book (opened rows.now.value.items) }
+        requires conf { book.conf ≡ J.conf }
+        requires opening { IfSome J.opening (λ h. h ≡ opened rows.now.value.items) }
+        requires counted { counted ≡ replicate J.places 0 }
+        ensures { result ≡ record { start = length_of scribe.history; published = scribe.history; accepted = scribe.history; ready = scribe.ready; kept = book.kept; faults = book.faults } }
+    {
+        let _ = rows;
+        let shown = scribe.front();
+        Writer {
+            alloc,
+            start: scribe.length(),
+            ledger,
+            copies,
+            scribe,
+            shown,
+            owed: None,
+            book,
+            counted,
+        }
+    }
+
+    /// The length of the accepted history. The published one is a beginning of it, and the keeper, where it tells its
+    /// rows, keeps it.
+    pub fn length(&self) -> u64
+        ensures exact { result ≡ length_of self.now.accepted }
+        ensures in_range { result ≤ 2 ^ 48 }
+        ensures prefix { Begins self.now.published self.now.accepted }
+        ensures kept { RowsAre J.conf self.now.kept self.now.accepted }
+    {
+        self.scribe.length()
+    }
+
+    /// How many interactions are accepted and not published.
+    pub fn owed(&self) -> u64
+        ensures { result + length_of self.now.published ≡ length_of self.now.accepted }
+    {
+        self.scribe.length() - self.shown.length()
+    }
+
+    /// The length at opening. The history begins with one of that length that no seat posted; where the keeper tells its
+    /// rows or is bare, it is the one that the opening names.
+    pub fn start(&self) -> u64
+        ensures exact { result ≡ self.now.start }
+        ensures nobody { (h : History) × Begins h self.now.accepted × ByNoSeat h.entries × (result ≡ length_of h) }
+        ensures opening { IfSome J.opening (λ h. Begins h self.now.accepted) }
+    {
+        self.start
+    }
+
+    /// The configuration of the opening.
+    pub fn conf(&self) -> Conf
+        ensures { result ≡ J.conf }
+    {
+        self.book.conf()
+    }
+
+    /// Confirms that what the seat saw is kept, as it is of each seat of the opening at all times: the accepted history
+    /// begins with it, and the keeper, where it tells its rows, keeps that history. It takes no memory; `Memory` stands for
+    /// a log of 2^64 batches.
+    pub fn confirm<W: Grow + Drop>(&mut self, seat: &Seat<W, J>) -> Result<(), Memory>
+        ensures ok { OnOk result (Begins seat.now.front self.new.accepted) }
+        ensures kept { RowsAre J.conf self.new.kept self.new.accepted }
+        ensures others { (self.new.accepted ≡ self.old.accepted) × (self.new.published ≡ self.old.published) × (self.new.start ≡ self.old.start) × (self.new.kept ≡ self.old.kept) × (self.new.faults ≡ self.old.faults) }
+    {
+        let ready = self.reserve();
+        let _ = self.length();
+        if !ready {
+            return Err(Memory);
+        }
+        self.scribe.confirm(seat.front());
+        Ok(())
+    }
+
+    /// Shows a compaction, which changes no history and no front. It may wait for looks that began before.
+    pub fn compact(&mut self) -> Result<(), Memory>
+        ensures { self.new ≡ self.old }
+    {
+        let batch = Batch::compacting(self.alloc, &self.shown);
+        match self.copies.show(batch) {
+            Ok(()) => Ok(()),
+            Err(_) => Err(Memory),
+        }
+    }
+
+    /// How many interactions the seats posted, of which all must be here: with those at opening, these are all. It takes
+    /// no memory.
+    pub fn settle<W: Grow + Drop>(&mut self, seats: Vec<Seat<W, J>>) -> u64
+        requires some { 0 < length seats.items }
+        requires all { length seats.items ≡ J.parts }
+        ensures exact { result ≡ sum_by (λ s. s.posted) seats.items }
+        ensures length { self.old.start + result ≡ length_of self.old.accepted }
+        ensures same { self.new ≡ self.old }
+    {
+        let mut share = gathered(seats);
+        self.ledger.audit(&mut share);
+        self.scribe.length() - self.start
+    }
+
+    /// The keeper. Where it tells its rows, it keeps the accepted history, so that an opening over it begins there. The
+    /// copies go, and from then on no seat gets a look. It may wait for looks that began before.
+    pub fn into_keeper(self) -> K
+        ensures keeps { Keeps J.conf (K.kept result) self.accepted }
+        ensures same { (K.kept result ≡ self.kept) × (K.faults result ≡ self.faults) }
+    {
+        let Writer {
+            alloc: _,
+            start: _,
+            ledger: _ledger,
+            copies: _copies,
+            scribe: _scribe,
+            shown: _shown,
+            owed: _owed,
+            book,
+            counted: _counted,
+        } = self;
+        book.into_keeper()
+    }
+
+    // Makes room in the log for one more batch. False where there is none.
+    fn reserve(&mut self) -> bool
+        ensures same { (self.new.accepted ≡ self.old.accepted) × (self.new.published ≡ self.old.published) × (self.new.start ≡ self.old.start) × (self.new.kept ≡ self.old.kept) × (self.new.faults ≡ self.old.faults) }
+        ensures ready { self.new.ready ≡ result }
+    {
+        self.scribe.reserve()
+    }
+
+    // Shows what is owed. False where no memory is found.
+    fn show_owed(&mut self) -> bool
+        ensures same { (self.new.accepted ≡ self.old.accepted) × (self.new.ready ≡ self.old.ready) × (self.new.start ≡ self.old.start) × (self.new.kept ≡ self.old.kept) × (self.new.faults ≡ self.old.faults) }
+        ensures shown { MatchBool result (self.new.published ≡ self.old.accepted) (self.new.published ≡ self.old.published) }
+    {
+        match self.owed.take() {
+            None => true,
+            Some(batch) => {
+                let after = batch.after();
+                match self.copies.show(batch) {
+                    Ok(()) => {
+                        self.shown = after;
+                        true
+                    }
+                    Err(batch) => {
+                        self.owed = Some(batch);
+                        false
+                    }
+                }
+            }
+        }
+    }
+
+    // How many entries of the history the seat with this number posted.
+    fn counted(&self, number: u32) -> u64
+        requires { (1 ≤ number) × (number ≤ J.places) }
+        ensures { result ≡ by_seat number self.now.accepted }
+    {
+        self.counted.get(number as usize - 1)
+    }
+}
+
+// All shares in one.
+fn gathered<W: Grow + Drop, J: Opening>(mut seats: Vec<Seat<W, J>>) -> Share<J>
+    requires { 0 < length seats.items }
+    ensures { (result.amount ≡ sum_by (λ s. s.posted) seats.items) × (result.parts ≡ length seats.items) }
+{
+    let mut all = seats.pop().unwrap().into_share();
+    while let Some(seat) = seats.pop() {
+        all.merge(seat.into_share());
+    }
+    all
+}
