@@ -28,6 +28,8 @@ use Rattle.gj_session.specs.Outcomes.{IsLack, IsReply, is_store, is_full, is_apa
 use Rattle.gj_session.specs.Reference.{reply_of}
 use Rattle.gj_session.specs.SeatReplies.{entered_items, outcome_of}
 use Rattle.gj_session.specs.SeatRuns.{is_look, CountedOne, SameSeat, SeatAnswers}
+use Rattle.gj_session.specs.SeatLaws.{made_none}
+use Rattle.gj_session.specs.Streams.{Made}
 use Rattle.gj_session.specs.declared.outcome.Outcome.{Outcome}
 use Rattle.gj_session.specs.declared.outcome.Outcome.TheVariants.{Says, Stands}
 use Rattle.gj_session.proofs.AskLemmas.{plain_reply}
@@ -58,6 +60,12 @@ rose_once f = omega arith
 rose_stays : (f : ℕ) → RoseBy 0 f f
 rose_stays f = omega arith
 
+made_stays : (f : ℕ) → Made 0 f f
+made_stays f = record { low = omega arith; high = omega arith }
+
+made_once : (f : ℕ) → Made 1 f (raised f)
+made_once f = record { low = omega arith; high = omega arith }
+
 rose_shown : (b : Bool) (f : ℕ) → RoseBy (one_if b) f (raised f)
 rose_shown true f = omega arith
 rose_shown false f = omega arith
@@ -66,7 +74,7 @@ rose_shown false f = omega arith
 pub counted_look : (n : Numbers) (query : Query) (o : Outcome) → Uncounts o → CountedOne n (looked n) (Ok (asks.Query query)) o
 counted_look n query o un = record {
   looks = rose_shown (is_look (Ok (asks.Query query)) o) n.looks;
-  refused = rose_none (is_no_look o) n.refused un.no_look;
+  refused = made_none (is_no_look o) n.refused un.no_look;
   store = rose_none (is_store o) n.store un.store;
   full = rose_none (is_full o) n.full un.full;
   apart = rose_none (is_apart o) n.apart un.apart;
@@ -104,7 +112,7 @@ posted_says conf S p q h new a b items r x =
       };
       few = inr (let own = x.posted.1 in let few = entries_low a.number new low in omega (arith, own, few));
       counts = subst (λ (m : Numbers). CountedOne n m (Ok (asks.Items items)) (Says (replies.Posted r.from r.to))) (sym x.numbers)
-          (record { looks = rose_once n.looks; refused = rose_stays n.refused; store = rose_stays n.store; full = rose_stays n.full; apart = rose_stays n.apart });
+          (record { looks = rose_once n.looks; refused = made_stays n.refused; store = rose_stays n.store; full = rose_stays n.full; apart = rose_stays n.apart });
     }
 
 unseen_stands : (conf : Configuration) (S : Type 0) (p q h new : History) (a b : SeatView) (items : List Item) (r : Receipt) → PostSays S p q h new a b items (Err (posts.KeptUnseen r))
@@ -118,7 +126,7 @@ unseen_stands conf S p q h new a b items r x =
       answers = (x.front, kept.4);
       few = inr (let own = kept.5 in let few = entries_low a.number new low in omega (arith, own, few));
       counts = subst (λ (m : Numbers). CountedOne n m (Ok (asks.Items items)) (Stands fixed.Accepted)) (sym x.numbers)
-          (record { looks = rose_once n.looks; refused = rose_stays n.refused; store = rose_stays n.store; full = rose_stays n.full; apart = rose_stays n.apart });
+          (record { looks = rose_once n.looks; refused = made_stays n.refused; store = rose_stays n.store; full = rose_stays n.full; apart = rose_stays n.apart });
     }
 
 none_stands : (conf : Configuration) (S : Type 0) (p q h new : History) (a b : SeatView) (items : List Item) → PostSays S p q h new a b items (Err posts.Memory)
@@ -131,7 +139,7 @@ none_stands conf S p q h new a b items x =
       answers = (refl, (x.front, kept.1));
       few = inl kept.1;
       counts = subst (λ (m : Numbers). CountedOne n m (Ok (asks.Items items)) (Stands fixed.NotAccepted)) (sym x.numbers)
-          (record { looks = rose_shown false n.looks; refused = rose_stays n.refused; store = rose_stays n.store; full = rose_stays n.full; apart = rose_stays n.apart });
+          (record { looks = rose_shown false n.looks; refused = made_stays n.refused; store = rose_stays n.store; full = rose_stays n.full; apart = rose_stays n.apart });
     }
 
 store_says : (conf : Configuration) (S : Type 0) (p q h new : History) (a b : SeatView) (items : List Item) → PostSays S p q h new a b items (Err posts.Store)
@@ -144,7 +152,7 @@ store_says conf S p q h new a b items x =
       answers = (x.front, kept.1);
       few = inl kept.1;
       counts = subst (λ (m : Numbers). CountedOne n m (Ok (asks.Items items)) (Says replies.Store)) (sym x.numbers)
-          (record { looks = rose_once n.looks; refused = rose_stays n.refused; store = rose_once n.store; full = rose_stays n.full; apart = rose_stays n.apart });
+          (record { looks = rose_once n.looks; refused = made_stays n.refused; store = rose_once n.store; full = rose_stays n.full; apart = rose_stays n.apart });
     }
 
 full_says : (conf : Configuration) (S : Type 0) (p q h new : History) (a b : SeatView) (items : List Item) (k : ℕ) → PostSays S p q h new a b items (Err (posts.Full k))
@@ -163,7 +171,7 @@ full_says conf S p q h new a b items k x =
       };
       few = inl kept.1;
       counts = subst (λ (m : Numbers). CountedOne n m (Ok (asks.Items items)) (Says (replies.Full k))) (sym x.numbers)
-          (record { looks = rose_stays n.looks; refused = rose_stays n.refused; store = rose_stays n.store; full = rose_once n.full; apart = rose_stays n.apart });
+          (record { looks = rose_stays n.looks; refused = made_stays n.refused; store = rose_stays n.store; full = rose_once n.full; apart = rose_stays n.apart });
     }
 
 no_look_stands : (conf : Configuration) (S : Type 0) (p q h new : History) (a b : SeatView) (items : List Item) (why : NoLook) → PostSays S p q h new a b items (Err (posts.NoLook why))
@@ -177,7 +185,7 @@ no_look_stands conf S p q h new a b items why x =
       answers = (refl, λ i. record { seen = none.1 i; entered = kept.1 i });
       few = inl kept.1;
       counts = subst (λ (m : Numbers). CountedOne n m (Ok (asks.Items items)) (Stands fixed.NoLook)) (sym x.numbers)
-          (record { looks = rose_stays n.looks; refused = rose_once n.refused; store = rose_stays n.store; full = rose_stays n.full; apart = rose_stays n.apart });
+          (record { looks = rose_stays n.looks; refused = made_once n.refused; store = rose_stays n.store; full = rose_stays n.full; apart = rose_stays n.apart });
     }
 
 apart_says : (conf : Configuration) (S : Type 0) (p q h new : History) (a b : SeatView) (items : List Item) (seen shown posted counted : ℕ) → PostSays S p q h new a b items (Err (posts.Apart seen shown posted counted))
@@ -191,7 +199,7 @@ apart_says conf S p q h new a b items seen shown posted counted x =
       answers = record { moves = (x.front, kept.1); at = differ.1; own = differ.3 ∙ sym kept.1; differ = differ.6 };
       few = inl kept.1;
       counts = subst (λ (m : Numbers). CountedOne n m (Ok (asks.Items items)) (Says (replies.Apart seen shown posted counted))) (sym x.numbers)
-          (record { looks = rose_once n.looks; refused = rose_stays n.refused; store = rose_stays n.store; full = rose_stays n.full; apart = rose_once n.apart });
+          (record { looks = rose_once n.looks; refused = made_stays n.refused; store = rose_stays n.store; full = rose_stays n.full; apart = rose_once n.apart });
     }
 
 -- a post, by its outcome
@@ -220,23 +228,6 @@ pub query_says : (conf : Configuration) (a b : SeatView) (query : Query) (lack :
 query_says conf a b query lack reply number posted later numbers e =
     looked_says conf a b query lack (Says reply) number posted later numbers (inl (ap Says e))
     (subst (λ (r : Reply). Uncounts (Says r)) (sym e) (uncounts_reply _ (plain_reply query (window_under conf b.front))))
-
-pub query_lacks : (conf : Configuration) (a b : SeatView) (query : Query) (lack : Fixed) → IsLack lack → b.number ≡ a.number → b.posted ≡ a.posted → Begins a.front b.front → b.numbers ≡ looked a.numbers
-    → SeatAnswers conf a b (Ok (asks.Query query)) lack (Stands lack)
-query_lacks conf a b query lack is number posted later numbers = looked_says conf a b query lack (Stands lack) number posted later numbers (inr refl) (uncounts_lack lack is)
-
--- the look was refused
-pub query_refused : (conf : Configuration) (a b : SeatView) (query : Query) (lack : Fixed) → b.number ≡ a.number → b.posted ≡ a.posted → Begins a.front b.front → b.front ≡ a.front → b.numbers ≡ not_looked a.numbers
-    → SeatAnswers conf a b (Ok (asks.Query query)) lack (Stands fixed.NoLook)
-query_refused conf a b query lack number posted later same numbers =
-    let n = a.numbers in
-    record {
-      same = record { number = number; later = later };
-      answers = inr (refl, λ i. record { seen = same i; entered = posted i });
-      few = inl posted;
-      counts = subst (λ (m : Numbers). CountedOne n m (Ok (asks.Query query)) (Stands fixed.NoLook)) (sym numbers)
-          (record { looks = rose_stays n.looks; refused = rose_once n.refused; store = rose_stays n.store; full = rose_stays n.full; apart = rose_stays n.apart });
-    }
 
 none_enter : (h : History) (number : ℕ) → h ≡ extend h (entries_by number [])
 none_enter h number = λ i. record { first = h.first; entries = sym (append-nil h.entries) i }

@@ -1,5 +1,5 @@
 -- What a run says of a seat.
-use Rattle.std.proofs.Common.{◌≡◌, ◌⊎◌, inl, inr, add-zero, ℕ, ◌+◌, ◌-◌, ◌^◌, ◌≤◌, ◌∙◌, min, Bool, true, false, List, [], ◌∷◌, Result, Ok, Err, refl, ap, sym, subst, arith}
+use Rattle.std.proofs.Common.{◌≡◌, ◌⊎◌, inl, inr, add-zero, ℕ, ◌+◌, ◌-◌, ◌^◌, ◌≤◌, ◌∙◌, min, Bool, true, false, List, [], ◌∷◌, count_by, Result, Ok, Err, refl, ap, sym, subst, arith}
 use Rattle.std.proofs.lemmas.List.Sums.{sum_by-append}
 use Rattle.gj_base.specs.Causes.{RoseBy}
 use Rattle.gj_base.specs.Configuration.{Configuration}
@@ -22,12 +22,18 @@ use Rattle.gj_session.specs.SeatLaws.{same_seat}
 use Rattle.gj_session.specs.SeatRuns.{mark_of, is_look, entered_by, entered_in, Counted, CountedOne, SeatAnswers, SeatRan}
 use Rattle.gj_session.specs.declared.outcome.Outcome.{Outcome}
 use Rattle.gj_session.specs.declared.outcome.Outcome.TheVariants.{Says, Stands}
-use Rattle.gj_session.proofs.RunLemmas.{rose_more, answers_message}
+use Rattle.gj_session.specs.IndexRuns.{one_if}
+use Rattle.gj_session.specs.Streams.{Made}
+use Rattle.gj_session.proofs.RunLemmas.{count_more, rose_more, answers_message}
+use Rattle.gj_session.proofs.StreamLemmas.{made_then}
+
+made_more : (p : Exchange → Bool) (e : Exchange) (es : List Exchange) (a b c : ℕ) → Made (one_if (p e)) a b → Made (count_by p es) b c → Made (count_by p (e ∷ es)) a c
+made_more p e es a b c x y = subst (λ (n : ℕ). Made n a c) (sym (count_more p e es)) (made_then (one_if (p e)) (count_by p es) a b c x y)
 
 counted_then : (a b c : Numbers) (e : Exchange) (es : List Exchange) → CountedOne a b (heard e.message) e.outcome → Counted b c es → Counted a c (e ∷ es)
 counted_then a b c e es x y = record {
   looks = rose_more (λ e. is_look (heard e.message) e.outcome) e es a.looks b.looks c.looks x.looks y.looks;
-  refused = rose_more (λ e. is_no_look e.outcome) e es a.refused b.refused c.refused x.refused y.refused;
+  refused = made_more (λ e. is_no_look e.outcome) e es a.refused b.refused c.refused x.refused y.refused;
   store = rose_more (λ e. is_store e.outcome) e es a.store b.store c.store x.store y.store;
   full = rose_more (λ e. is_full e.outcome) e es a.full b.full c.full x.full y.full;
   apart = rose_more (λ e. is_apart e.outcome) e es a.apart b.apart c.apart x.apart y.apart;
@@ -90,7 +96,7 @@ none_ran conf s = record {
     run = refl;
     entered = sym (add-zero s.posted);
     few = omega arith;
-    counts = record { looks = omega arith; refused = omega arith; store = omega arith; full = omega arith; apart = omega arith };
+    counts = record { looks = omega arith; refused = record { low = omega arith; high = omega arith }; store = omega arith; full = omega arith; apart = omega arith };
   };
   last = inl refl;
 }

@@ -15,14 +15,19 @@ use Rattle.gj_session.specs.AnsweringLaws.{begins_itself, lacked_ask, batch_stan
 use Rattle.gj_session.specs.IndexRuns.{one_if}
 use Rattle.gj_session.specs.Outcomes.{IsReply, IsLack, Uncounted, lack_after, is_store, is_full, is_apart, is_no_look}
 use Rattle.gj_session.specs.SeatRuns.{mark_of, is_look, is_batch_look, CountedOne, SameSeat, SeatAnswers}
+use Rattle.gj_session.specs.Streams.{Made}
 use Rattle.gj_session.specs.declared.outcome.Outcome.{Outcome}
 use Rattle.gj_session.specs.declared.outcome.Outcome.TheVariants.{Says, Stands}
+
+-- none was made
+pub made_none : (b : Bool) (f : ℕ) → b ≡ false → Made (one_if b) f f
+made_none b f e = rw e (record { low = omega arith; high = omega arith })
 
 -- the numbers stay
 pub counted_none : (n : Numbers) (ask : Result Ask Reply) (outcome : Outcome) → Uncounts outcome → is_look ask outcome ≡ false → CountedOne n n ask outcome
 counted_none n ask outcome un unseen = record {
   looks = rose_none (is_look ask outcome) n.looks unseen;
-  refused = rose_none (is_no_look outcome) n.refused un.no_look;
+  refused = made_none (is_no_look outcome) n.refused un.no_look;
   store = rose_none (is_store outcome) n.store un.store;
   full = rose_none (is_full outcome) n.full un.full;
   apart = rose_none (is_apart outcome) n.apart un.apart;

@@ -16,6 +16,7 @@ use Rattle.gj_session.specs.Heard.{heard}
 use Rattle.gj_session.specs.IndexRuns.{one_if}
 use Rattle.gj_session.specs.Outcomes.{is_store, is_full, is_apart, is_no_look}
 use Rattle.gj_session.specs.Runs.{Exchange, Run, stores_in}
+use Rattle.gj_session.specs.Streams.{Made}
 use Rattle.gj_session.specs.declared.outcome.Outcome.{Outcome}
 use Rattle.gj_session.specs.declared.outcome.Outcome.TheVariants.{Says, Stands}
 
@@ -42,10 +43,11 @@ is_look (Ok (asks.Items batch)) outcome = is_batch_look outcome
 is_look (Ok (asks.Query query)) outcome = is_query_look outcome
 is_look (Err reply) outcome = false
 
--- each number of the seat rose by as many as there are answers of its kind, or it stands still at the last value of a u64
+-- each number of the seat rose by at least as many as there are answers of its kind, and that of refused looks by just as
+-- many, or it stands still at the last value of a u64
 pub record Counted (a b : Numbers) (exchanges : List Exchange) : Type 0 where
   pub looks : RoseBy (count_by (λ e. is_look (heard e.message) e.outcome) exchanges) a.looks b.looks
-  pub refused : RoseBy (count_by (λ e. is_no_look e.outcome) exchanges) a.refused b.refused
+  pub refused : Made (count_by (λ e. is_no_look e.outcome) exchanges) a.refused b.refused
   pub store : RoseBy (stores_in exchanges) a.store b.store
   pub full : RoseBy (count_by (λ e. is_full e.outcome) exchanges) a.full b.full
   pub apart : RoseBy (count_by (λ e. is_apart e.outcome) exchanges) a.apart b.apart
@@ -53,7 +55,7 @@ pub record Counted (a b : Numbers) (exchanges : List Exchange) : Type 0 where
 -- the same for one answer
 pub record CountedOne (a b : Numbers) (ask : Result Ask Reply) (outcome : Outcome) : Type 0 where
   pub looks : RoseBy (one_if (is_look ask outcome)) a.looks b.looks
-  pub refused : RoseBy (one_if (is_no_look outcome)) a.refused b.refused
+  pub refused : Made (one_if (is_no_look outcome)) a.refused b.refused
   pub store : RoseBy (one_if (is_store outcome)) a.store b.store
   pub full : RoseBy (one_if (is_full outcome)) a.full b.full
   pub apart : RoseBy (one_if (is_apart outcome)) a.apart b.apart

@@ -117,6 +117,7 @@ pub fn accept<J: Opening, C: Copies<Operation = Batch<J>>, K: Keeper + Drop, W: 
     ensures history { writer.new.accepted ≡ extend writer.old.accepted (entries_by seat.old.number (entered_items items result)) }
     ensures later { writer.old.faults ≤ writer.new.faults }
 {
+    // Its contract bounds the length with which a full history is told.
     let _length = writer.length();
     let posted = writer.post(seat, items);
     compact_filled(writer, &posted);
