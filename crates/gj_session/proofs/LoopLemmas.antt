@@ -71,9 +71,6 @@ by_messages_same Truncated f g h e = e
 by_messages_same ReadFault f g h e = absurd h
 by_messages_same Turns f g h e = e
 
-pub by_messages_read : (end : End) → IsByMessages end → end ≢ ReadFault
-by_messages_read end h e = (let wrong : IsByMessages ReadFault = subst IsByMessages e h in wrong)
-
 -- a piece was taken, and a message or a refusal in what is held ended the session
 pub replayed_messages : Joins → FeedsOn → (S : Type 0) (step : S → Request → Outcome → S → Type 0) (k0 k1 k2 : S) (i0 i1 i2 : Incoming) (o0 o1 o2 : Outgoing) (held holds : List ℕ) (at n turns : ℕ) (end : End)
     → InSession (Leads S step k0 k1) i0 i1 o0 o1 held at → TookPiece i1 i2 held holds n → at < turns
@@ -154,9 +151,6 @@ input_same (Stopped _) held f g how e = e
 input_same ReadFault held f g how e = absurd how
 input_same WriteFault held f g how e = e
 input_same Turns held f g how e = e
-
-pub input_read : (end : End) (held : List ℕ) → EndsInput end held → end ≢ ReadFault
-input_read end held how e = (let wrong : EndsInput ReadFault held = subst (λ (x : End). EndsInput x held) e how in wrong)
 
 empty_by_length : (xs : List ℕ) → length xs ≡ 0 → xs ≡ []
 empty_by_length [] e = refl

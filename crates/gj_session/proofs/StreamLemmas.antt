@@ -8,9 +8,6 @@ use Rattle.gj_session.specs.Streams.{Incoming, Outgoing, FailedOnce, Made, TookA
 pub made_none : (f : ℕ) → Made 0 f f
 made_none f = record { low = omega arith; high = omega arith }
 
-pub made_one : (f g : ℕ) → g ≡ one_more f → Made 1 f g
-made_one f g e = record { low = omega (arith, e); high = omega (arith, e) }
-
 pub made_then : (n m f g h : ℕ) → Made n f g → Made m g h → Made (n + m) f h
 made_then n m f g h x y = record { low = omega (arith, x.low, x.high, y.low, y.high); high = omega (arith, x.high, y.high) }
 
@@ -81,27 +78,4 @@ wrote_piece a b c bytes at n within x told all same spent few =
       all = λ t. wrote_more a.written b.written c.written bytes at n (x.all t) (all (subst IsTrue (sym x.told) t));
       same = same ∙ x.same;
       spent = omega (arith, rest, left, first, both, x.spent);
-    }
-
--- the last piece
-pub wrote_all : (a b : Outgoing) (bytes : List ℕ) (at : ℕ) → length bytes ≤ at → Wrote a b (take at bytes) → Wrote a b bytes
-wrote_all a b bytes at all x = subst (Wrote a b) (take_all at bytes all) x
-
-none_sure : (n : ℕ) → (0 < n → ⊥) → n ≡ 0
-none_sure zero never = refl
-none_sure (suc n) never = absurd (never (omega arith))
-
--- after a first part, a call failed
-pub failed_part : (a b c : Outgoing) (bytes : List ℕ) (at : ℕ) → at < length bytes → Wrote a b (take at bytes) → c.tells ≡ b.tells
-    → (IsTrue b.tells → c.written ≡ b.written) → c.faults ≡ one_more b.faults → b.faults ≤ c.faults → (0 < b.sure → ⊥) → WrotePart a c [] bytes
-failed_part a b c bytes at part x told all once later never =
-    let none = none_sure b.sure never in
-    let first = length-take at bytes in
-    record {
-      told = told ∙ x.told;
-      count = at;
-      part = part;
-      all = λ t. all (subst IsTrue (sym x.told) t) ∙ x.all t ∙ ap (λ (w : List ℕ). w ++ take at bytes) (sym (append-nil a.written));
-      failed = failed_then a.faults b.faults c.faults x.same (record { once = once; later = later });
-      spent = omega (arith, none, first, x.spent);
     }

@@ -144,10 +144,6 @@ rose_none b f e = rw e (omega arith)
 rose_less : (n f g : ℕ) → RoseBy n f g → RoseBy 0 f g
 rose_less n f g x = omega arith
 
--- where an answer gives way to a fixed reply, no count is of it
-stands_store : (outcome : Outcome) → is_store (Stands (lack_after outcome fixed.NotAccepted)) ≡ false
-stands_store outcome = refl
-
 pub index_refused : (a : IndexAt) (reply : Reply) (lack : Fixed) (outcome : Outcome) → Uncounted reply → IsLack lack → IsReply reply lack outcome
     → IndexAnswers a a (Err reply) lack outcome
 index_refused a reply lack outcome plain is reply_is = record {
