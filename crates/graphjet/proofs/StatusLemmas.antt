@@ -1,15 +1,17 @@
 -- What a status tells.
-use Rattle.std.proofs.Common.{◌≡◌, ℕ, ◌∙◌, ◌==◌, ◌++◌, if◌then◌else◌, length, take, Result, Ok, Err, arith, List, [], refl, ap, sym, subst}
+use Rattle.std.proofs.Common.{◌≡◌, ℕ, ◌∙◌, ◌==◌, ◌++◌, if◌then◌else◌, length, take, true, Result, Ok, Err, arith, List, [], refl, ap, sym, subst}
 use Rattle.gj_base.specs.declared.history.History.{History}
 use Rattle.gj_base.specs.declared.history.Shown.{Shown}
 use Rattle.gj_base.specs.Configuration.{Configuration}
 use Rattle.gj_base.specs.History.{StandsFor, conf_of, empty_shown, empty_history, windowed, base, window}
-use Rattle.gj_base.specs.Stream.{Reading}
 use Rattle.std.proofs.lemmas.List.{take_all}
-use Rattle.gj_session.specs.Sessions.{Replayed, Sent}
+use Rattle.gj_session.specs.Answers.{mark_at}
+use Rattle.gj_session.specs.IndexRuns.{IndexAt, IndexRan}
+use Rattle.gj_session.specs.Runs.{Exchange, Run}
+use Rattle.gj_session.specs.Streams.{Sent}
 use Rattle.gj_session.specs.declared.outcome.End.{End}
 use Rattle.gj_session.specs.declared.outcome.End.TheVariants as ends
-use Rattle.graphjet.specs.Headline.{program_conf, IsEmpty, IsAny}
+use Rattle.graphjet.specs.Headline.{program_conf, Ran}
 use Rattle.graphjet.specs.Statuses.{code_of, status_of_end}
 use Rattle.graphjet.specs.declared.run_status.RunStatus.{RunStatus}
 use Rattle.graphjet.specs.declared.run_status.RunStatus.TheVariants.{Done, Usage, ReadFault, WriteFault, Truncated, Memory, StoppedEarly, TooManyReads}
@@ -19,32 +21,24 @@ unfolding windowed base
 empty_window = refl
 
 -- the empty window stands for the empty history
-pub empty_stands : (w : Shown) (h : History) → w ≡ empty_shown program_conf 0 → IsEmpty h → StandsFor w h
+empty_stands : (w : Shown) (h : History) → w ≡ empty_shown program_conf 0 → h ≡ empty_history 0 → StandsFor w h
 empty_stands w h e f = subst (λ (v : Shown). StandsFor v h) (sym e) (subst (λ (g : History). StandsFor (empty_shown program_conf 0) g) (sym f) empty_window)
 
--- a session over an index that showed nothing runs from the empty history
-pub from_empty : (w : Shown) (after : History → Type 0) (told_in told_out : Type 0) (first last : Reading) (w0 w1 : List ℕ) (turns : ℕ) (end : End) → w ≡ empty_shown program_conf 0
-    → Replayed (conf_of w) (λ h. StandsFor w h) after 0 0 told_in told_out first last w0 w1 turns end
-    → Replayed program_conf IsEmpty IsAny 0 0 told_in told_out first last w0 w1 turns end
-from_empty w after told_in told_out first last w0 w1 turns end e x =
-    let same : conf_of w ≡ program_conf = ap conf_of e in
-    let y = subst (λ (c : Configuration). Replayed c (λ h. StandsFor w h) after 0 0 told_in told_out first last w0 w1 turns end) same x in
-    record {
-      bytes = y.bytes;
-      taken = y.taken;
-      ended = record {
-        exchanges = y.ended.exchanges;
-        rest = y.ended.rest;
-        answered = record {
-          front = y.ended.answered.front;
-          runs = λ h seat empty. (let p = y.ended.answered.runs h seat (empty_stands w h e empty) in (p.0, (p.1.0, tt)));
-          stores = y.ended.answered.stores;
-        };
-        ends = y.ended.ends;
-      };
-      all = y.all;
-      turned = y.turned;
-    }
+-- a run over an index is one from each history that it kept
+pub ran_from : (conf : Configuration) (opening : History) (a b : IndexAt) (left : History → Type 0) (exchanges : List Exchange)
+    → conf_of a.viewed ≡ conf → StandsFor a.viewed opening → a.keeps opening → ((h : History) → b.keeps h → left h)
+    → IndexRan a b exchanges → Ran conf opening left a.faults b.faults exchanges
+ran_from conf opening a b left exchanges same stands kept ends ran = record {
+  runs = λ seat.
+      let x = ran.runs opening seat stands in
+      let Leads : Configuration → Type 0 = λ c. Run c true seat (mark_at seat opening) (mark_at seat x.0) exchanges in
+      (x.0, (subst Leads same x.1.0, ends x.0 (x.1.1.keeps kept)));
+  stores = ran.stores;
+}
+
+-- the empty window stands for the empty history
+pub stands_empty : (w : Shown) → w ≡ empty_shown program_conf 0 → StandsFor w (empty_history 0)
+stands_empty w e = empty_stands w (empty_history 0) e refl
 
 -- a beginning was written, whatever came of the writes
 pub sent_part : {E : Type 0} (r : Result (Unit {0}) E) (old new whole : List ℕ) → Sent old new whole r → (k : ℕ) × (new ≡ old ++ take k whole)

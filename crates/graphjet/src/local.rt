@@ -1,9 +1,10 @@
 //! The commands that serve no connection.
-ghost use Rattle.std.specs.Prelude.{◌≡◌, ◌≢◌, ◌⊎◌, ◌≤◌, ◌↔◌, IsTrue, IfOk, codes, map, string_bytes};
+ghost use Rattle.std.specs.Prelude.{◌≡◌, ◌≢◌, ◌⊎◌, ◌+◌, ◌^◌, ◌<◌, ◌≤◌, ◌↔◌, IsTrue, IfOk, codes, length, map, string_bytes};
 ghost use Rattle.gj_base.specs.Causes.{Rose};
-ghost use Rattle.gj_base.specs.History.{empty_shown};
+ghost use Rattle.gj_base.specs.History.{empty_history, empty_shown};
 ghost use Rattle.gj_base.specs.ListGraphs.{shown_by};
-ghost use Rattle.graphjet.specs.Headline.{Headline, IsReplay, Reports, program_conf};
+ghost use Rattle.gj_session.specs.Streams.{incoming, outgoing};
+ghost use Rattle.graphjet.specs.Headline.{Headline, IsAny, IsReplay, Ran, Reports, program_conf};
 ghost use Rattle.graphjet.specs.Statuses.{code_of, line_of};
 ghost use Rattle.graphjet.specs.declared.run_status.RunStatus.TheVariants as statuses;
 
@@ -71,11 +72,16 @@ fn is_replay(word: &str) -> bool
 fn replay<S: Source, O: Sink>(alloc: Global, input: &mut S, out: &mut O) -> RunStatus
     ensures never { result ≢ RunStatus.Usage }
     ensures memory { result ≡ RunStatus.Memory → (input.new ≡ input.old) × (out.new ≡ out.old) }
-    ensures headline { result ≢ RunStatus.Memory → Headline (IsTrue (S.tells input.old)) (IsTrue (O.tells out.old))
-        (S.stream input.old) (S.stream input.new) (O.written out.old) (O.written out.new) (code_of result) }
+    ensures headline { result ≢ RunStatus.Memory → Headline (Ran program_conf (empty_history 0) IsAny 0 0)
+        (incoming (S.tells input.old) (S.stream input.old) (S.faults input.old) (S.reads input.old))
+        (incoming (S.tells input.new) (S.stream input.new) (S.faults input.new) (S.reads input.new))
+        (outgoing (O.tells out.old) (O.written out.old) (O.faults out.old) (O.sure out.old))
+        (outgoing (O.tells out.new) (O.written out.new) (O.faults out.new) (O.sure out.new)) (code_of result) }
     ensures read_cause { result ≡ RunStatus.ReadFault → Rose (S.faults input.old) (S.faults input.new) }
     ensures write_cause { result ≡ RunStatus.WriteFault → Rose (O.faults out.old) (O.faults out.new) }
     ensures steady { S.steady input.old → result ≢ RunStatus.ReadFault }
+    ensures room { IsTrue (O.tells out.old) → result ≡ RunStatus.WriteFault → O.sure out.old + length (O.written out.old) ≤ length (O.written out.new) }
+    ensures short { IsTrue (S.tells input.old) → length (S.stream input.old).left < 2 ^ 40 → result ≢ RunStatus.TooManyReads }
 {
     match make_parts(alloc) {
         Err(Memory) => RunStatus::Memory,
@@ -98,11 +104,16 @@ fn obey<S: Source, O: Sink>(
 ) -> RunStatus
     ensures usage { (result ≡ RunStatus.Usage) ↔ (IsReplay (map (λ w. string_bytes w) words.now) → ⊥) }
     ensures untouched { (result ≡ RunStatus.Usage) ⊎ (result ≡ RunStatus.Memory) → (input.new ≡ input.old) × (out.new ≡ out.old) }
-    ensures headline { result ≢ RunStatus.Usage → result ≢ RunStatus.Memory → Headline (IsTrue (S.tells input.old)) (IsTrue (O.tells out.old))
-        (S.stream input.old) (S.stream input.new) (O.written out.old) (O.written out.new) (code_of result) }
+    ensures headline { result ≢ RunStatus.Usage → result ≢ RunStatus.Memory → Headline (Ran program_conf (empty_history 0) IsAny 0 0)
+        (incoming (S.tells input.old) (S.stream input.old) (S.faults input.old) (S.reads input.old))
+        (incoming (S.tells input.new) (S.stream input.new) (S.faults input.new) (S.reads input.new))
+        (outgoing (O.tells out.old) (O.written out.old) (O.faults out.old) (O.sure out.old))
+        (outgoing (O.tells out.new) (O.written out.new) (O.faults out.new) (O.sure out.new)) (code_of result) }
     ensures read_cause { result ≡ RunStatus.ReadFault → Rose (S.faults input.old) (S.faults input.new) }
     ensures write_cause { result ≡ RunStatus.WriteFault → Rose (O.faults out.old) (O.faults out.new) }
     ensures steady { S.steady input.old → result ≢ RunStatus.ReadFault }
+    ensures room { IsTrue (O.tells out.old) → result ≡ RunStatus.WriteFault → O.sure out.old + length (O.written out.old) ≤ length (O.written out.new) }
+    ensures short { IsTrue (S.tells input.old) → length (S.stream input.old).left < 2 ^ 40 → result ≢ RunStatus.TooManyReads }
 {
     if asks_replay(words) {
         replay(alloc, input, out)
@@ -112,7 +123,7 @@ fn obey<S: Source, O: Sink>(
 }
 
 /// Writes the status's line. A write that fails is passed over.
-fn report<E: Sink>(err: &mut E, status: RunStatus)
+pub fn report<E: Sink>(err: &mut E, status: RunStatus)
     ensures part { IsTrue (E.tells err.old) → (k : ℕ) × (E.written err.new ≡ E.written err.old ++ take k (line_of status)) }
     ensures whole { IsTrue (E.tells err.old) → (Rose (E.faults err.old) (E.faults err.new) → ⊥) → E.written err.new ≡ E.written err.old ++ line_of status }
 {
@@ -138,13 +149,21 @@ pub fn run_local<S: Source, O: Sink, E: Sink, P: Keepers>(
     ensures untouched { (result ≡ 2) ⊎ (result ≡ 7) → (input.new ≡ input.old) × (out.new ≡ out.old) }
 
     // Otherwise the headline holds.
-    ensures headline { result ≢ 2 → result ≢ 7 → Headline (IsTrue (S.tells input.old)) (IsTrue (O.tells out.old))
-        (S.stream input.old) (S.stream input.new) (O.written out.old) (O.written out.new) result }
+    ensures headline { result ≢ 2 → result ≢ 7 → Headline (Ran program_conf (empty_history 0) IsAny 0 0)
+        (incoming (S.tells input.old) (S.stream input.old) (S.faults input.old) (S.reads input.old))
+        (incoming (S.tells input.new) (S.stream input.new) (S.faults input.new) (S.reads input.new))
+        (outgoing (O.tells out.old) (O.written out.old) (O.faults out.old) (O.sure out.old))
+        (outgoing (O.tells out.new) (O.written out.new) (O.faults out.new) (O.sure out.new)) result }
 
     // The causes of faults.
     ensures read_cause { result ≡ 3 → Rose (S.faults input.old) (S.faults input.new) }
     ensures write_cause { result ≡ 4 → Rose (O.faults out.old) (O.faults out.new) }
+
+    // What doesn't come: a fault of a source that fails no more, a fault of a sink before its room is spent, and too many
+    // reads of fewer than 2^40 bytes.
     ensures steady { S.steady input.old → result ≢ 3 }
+    ensures room { IsTrue (O.tells out.old) → result ≡ 4 → O.sure out.old + length (O.written out.old) ≤ length (O.written out.new) }
+    ensures short { IsTrue (S.tells input.old) → length (S.stream input.old).left < 2 ^ 40 → result ≢ 10 }
 
     ensures line { Reports (IsTrue (E.tells err.old)) (Rose (E.faults err.old) (E.faults err.new)) (E.written err.old) (E.written err.new) result }
     ensures stores { stores.new ≡ stores.old }

@@ -8,9 +8,11 @@ use std::alloc::Global;
 pub struct NoKeeper;
 
 impl Keeper for NoKeeper {
-    ghost use Rattle.std.specs.Prelude.{true, false, None, []};
+    ghost use Rattle.std.specs.Prelude.{true, false, None, [], refl};
 
     ghost kept = { λ _. record { bare = true; tells = false; conf = None; rows = [] } };
+
+    ghost untold = { λ _ _. refl };
 
     ghost faults = { λ _. 0 };
 
@@ -35,6 +37,10 @@ impl Keeper for NoKeeper {
     fn trim(&mut self, _below: u64) -> Result<(), KeepError> {
         Ok(())
     }
+
+    fn migrate(&mut self) -> Result<(), KeepError> {
+        Ok(())
+    }
 }
 
 /// Hands out a `NoKeeper`, whatever the path.
@@ -44,8 +50,12 @@ pub struct NoKeepers {
 }
 
 impl NoKeepers {
+    ghost use Rattle.std.specs.Prelude.{IsTrue};
+
     /// Its keeper is at home.
-    pub fn new() -> Self {
+    pub fn new() -> Self
+        ensures { IsTrue result.home }
+    {
         NoKeepers { home: true }
     }
 }
@@ -62,6 +72,8 @@ impl Keepers for NoKeepers {
     ghost own = { λ _. 0 };
 
     ghost faults = { λ _. 0 };
+
+    ghost steady = { λ _. Unit {0} };
 
     fn keeper_at(&mut self, _alloc: Global, _path: &str) -> Result<NoKeeper, KeepError> {
         self.home = false;
