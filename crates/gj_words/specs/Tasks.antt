@@ -1,5 +1,5 @@
 -- What the arguments of the program ask for. Own: the commands, and the ranges and defaults of their options.
-use Rattle.std.specs.Prelude.{ℕ, List, [], ◌∷◌, Option, Some, None, codes, option_map, option_and_then, if◌then◌else◌}
+use Rattle.std.specs.Prelude.{ℕ, ◌<◌, ◌≤◌, List, [], ◌∷◌, Option, Some, None, codes, option_map, option_and_then, if◌then◌else◌}
 use Rattle.std.specs.Str.{bytes_eq}
 use Rattle.gj_base.specs.Configuration.{Configuration}
 use Rattle.clap.specs.Faults.{fault_of}
@@ -19,6 +19,11 @@ pub data Asked : Type 0 where
 abbrev pub asked_by : Task → Asked
 asked_by (task.Replay conf store) = Replay conf (option_map (λ path. path.now) store)
 asked_by (task.Load conf number count) = Load conf number count
+
+-- the interactions of a load are neither none nor too many
+abbrev pub HasCount : Task → Type 0
+HasCount (task.Replay conf store) = Unit {0}
+HasCount (task.Load conf number count) = (0 < count) × (count ≤ 1000000)
 
 -- a number of an option
 abbrev pub number_at : Text → ℕ → ℕ → ℕ → List Row → Option ℕ

@@ -5,7 +5,7 @@ ghost use Rattle.clap.specs.Walk.{is_empty};
 ghost use Rattle.clap.specs.declared.error.kind.ErrorKind.TheVariants as kind;
 ghost use Rattle.gj_words.specs.Options.{replay_app, load_app};
 ghost use Rattle.gj_words.specs.Values.{number_in, path_in};
-ghost use Rattle.gj_words.specs.Tasks.{asked_by, asked_of, conf_in, load_in, replay_in, under};
+ghost use Rattle.gj_words.specs.Tasks.{HasCount, asked_by, asked_of, conf_in, load_in, replay_in, under};
 ghost use Rattle.gj_words.specs.declared.task.WordsError.TheVariants as why;
 
 use crate::numbers::{Range, number_of};
@@ -85,7 +85,8 @@ fn conf_option(matches: &ArgMatches) -> Option<Conf>
 }
 
 fn replay_option<'a>(matches: &ArgMatches<'a>) -> Option<Task<'a>>
-    ensures { option_map asked_by result ≡ replay_in (rows_of (found_of matches.now)) }
+    ensures counts { IfSome result HasCount }
+    ensures exact { option_map asked_by result ≡ replay_in (rows_of (found_of matches.now)) }
 {
     let conf = conf_option(matches)?;
     let store = path_option(matches)?;
@@ -93,7 +94,8 @@ fn replay_option<'a>(matches: &ArgMatches<'a>) -> Option<Task<'a>>
 }
 
 fn load_option<'a>(matches: &ArgMatches<'a>) -> Option<Task<'a>>
-    ensures { option_map asked_by result ≡ load_in (rows_of (found_of matches.now)) }
+    ensures exact { option_map asked_by result ≡ load_in (rows_of (found_of matches.now)) }
+    ensures counts { IfSome result HasCount }
 {
     let conf = conf_option(matches)?;
     let numbers = Range {
@@ -116,6 +118,7 @@ fn load_option<'a>(matches: &ArgMatches<'a>) -> Option<Task<'a>>
 fn read_replay<'a>(alloc: Global, words: &'a [String]) -> Result<Task<'a>, WordsError>
     ensures ok { IfOk result (λ t. under replay_app replay_in (map (λ w. string_bytes w) words.entry.now) ≡ Some (asked_by t)) }
     ensures usage { IsErrOf result why.Usage → under replay_app replay_in (map (λ w. string_bytes w) words.entry.now) ≡ None }
+    ensures counts { IfOk result HasCount }
 {
     let Ok(mut command) = replay_command(alloc) else {
         return Err(WordsError::Memory);
@@ -130,6 +133,7 @@ fn read_replay<'a>(alloc: Global, words: &'a [String]) -> Result<Task<'a>, Words
 fn read_load<'a>(alloc: Global, words: &'a [String]) -> Result<Task<'a>, WordsError>
     ensures ok { IfOk result (λ t. under load_app load_in (map (λ w. string_bytes w) words.entry.now) ≡ Some (asked_by t)) }
     ensures usage { IsErrOf result why.Usage → under load_app load_in (map (λ w. string_bytes w) words.entry.now) ≡ None }
+    ensures counts { IfOk result HasCount }
 {
     let Ok(mut command) = load_command(alloc) else {
         return Err(WordsError::Memory);
@@ -146,6 +150,7 @@ fn read_load<'a>(alloc: Global, words: &'a [String]) -> Result<Task<'a>, WordsEr
 fn read_named<'a>(alloc: Global, name: &str, options: &'a [String]) -> Result<Task<'a>, WordsError>
     ensures ok { IfOk result (λ t. asked_of (name.now ∷ map (λ w. string_bytes w) options.entry.now) ≡ Some (asked_by t)) }
     ensures usage { IsErrOf result why.Usage → asked_of (name.now ∷ map (λ w. string_bytes w) options.entry.now) ≡ None }
+    ensures counts { IfOk result HasCount }
 {
     if name == "replay" {
         read_replay(alloc, options)
@@ -160,6 +165,7 @@ fn read_named<'a>(alloc: Global, name: &str, options: &'a [String]) -> Result<Ta
 pub fn read_words<'a>(alloc: Global, words: &'a [String]) -> Result<Task<'a>, WordsError>
     ensures ok { IfOk result (λ t. asked_of (map (λ w. string_bytes w) words.entry.now) ≡ Some (asked_by t)) }
     ensures usage { IsErrOf result why.Usage → asked_of (map (λ w. string_bytes w) words.entry.now) ≡ None }
+    ensures counts { IfOk result HasCount }
 {
     match words.split_first() {
         None => Err(WordsError::Usage),
