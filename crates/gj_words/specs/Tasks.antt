@@ -1,7 +1,7 @@
 -- What the arguments of the program ask for. Own: the commands, and the ranges and defaults of their options.
 use Rattle.std.specs.Prelude.{ℕ, ◌<◌, ◌≤◌, List, [], ◌∷◌, Option, Some, None, codes, option_map, option_and_then, if◌then◌else◌}
 use Rattle.std.specs.Str.{bytes_eq}
-use Rattle.gj_base.specs.Configuration.{Configuration}
+use Rattle.gj_base.specs.Configuration.{Configuration, IsConfiguration}
 use Rattle.clap.specs.Faults.{fault_of}
 use Rattle.clap.specs.Simple.{App, matches_of}
 use Rattle.clap.specs.Walk.{Row, Text, first_of, is_empty}
@@ -17,13 +17,13 @@ pub data Asked : Type 0 where
 
 -- what a task asks for
 abbrev pub asked_by : Task → Asked
-asked_by (task.Replay conf store) = Replay conf (option_map (λ path. path.now) store)
-asked_by (task.Load conf number count) = Load conf number count
+asked_by (task.Replay capacity segments store) = Replay (record { capacity = capacity; segments = segments }) (option_map (λ path. path.now) store)
+asked_by (task.Load capacity segments number count) = Load (record { capacity = capacity; segments = segments }) number count
 
--- the interactions of a load are neither none nor too many
-abbrev pub HasCount : Task → Type 0
-HasCount (task.Replay conf store) = Unit {0}
-HasCount (task.Load conf number count) = (0 < count) × (count ≤ 1000000)
+-- the numbers of a task are in their ranges
+abbrev pub IsTask : Task → Type 0
+IsTask (task.Replay capacity segments store) = IsConfiguration capacity segments
+IsTask (task.Load capacity segments number count) = IsConfiguration capacity segments × (0 < count) × (count ≤ 1000000)
 
 -- a number of an option
 abbrev pub number_at : Text → ℕ → ℕ → ℕ → List Row → Option ℕ

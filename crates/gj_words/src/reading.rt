@@ -5,7 +5,7 @@ ghost use Rattle.clap.specs.Walk.{is_empty};
 ghost use Rattle.clap.specs.declared.error.kind.ErrorKind.TheVariants as kind;
 ghost use Rattle.gj_words.specs.Options.{replay_app, load_app};
 ghost use Rattle.gj_words.specs.Values.{number_in, path_in};
-ghost use Rattle.gj_words.specs.Tasks.{HasCount, asked_by, asked_of, conf_in, load_in, replay_in, under};
+ghost use Rattle.gj_words.specs.Tasks.{IsTask, asked_by, asked_of, conf_in, load_in, replay_in, under};
 ghost use Rattle.gj_words.specs.declared.task.WordsError.TheVariants as why;
 
 use crate::numbers::{Range, number_of};
@@ -13,7 +13,6 @@ use crate::options::{load_command, replay_command};
 use crate::task::{Task, WordsError};
 use clap::error::ErrorKind;
 use clap::{ArgMatches, Command, Error};
-use gj_base::Conf;
 use std::alloc::Global;
 
 /// Why `clap` gives no matches.
@@ -71,9 +70,17 @@ fn path_option<'a>(matches: &ArgMatches<'a>) -> Option<Option<&'a str>>
     }
 }
 
+/// The numbers of a window.
+#[derive(Clone, Copy)]
+struct Size {
+    capacity: u32,
+    segments: u32,
+}
+
 /// The window that the options ask for.
-fn conf_option(matches: &ArgMatches) -> Option<Conf>
-    ensures { result ≡ conf_in (rows_of (found_of matches.now)) }
+fn size_option(matches: &ArgMatches) -> Option<Size>
+    ensures exact { option_map (λ size. record { capacity = size.capacity; segments = size.segments }) result ≡ conf_in (rows_of (found_of matches.now)) }
+    ensures in_range { IfSome result (λ size. IsConfiguration size.capacity size.segments) }
 {
     let capacities = Range {
         least: 16,
@@ -81,23 +88,32 @@ fn conf_option(matches: &ArgMatches) -> Option<Conf>
     };
     let capacity = number_option(matches, "capacity", capacities, 4096)?;
     let segments = number_option(matches, "segments", Range { least: 1, most: 64 }, 4)?;
-    Conf::make(capacity as u32, segments as u32)
+    Some(Size {
+        capacity: capacity as u32,
+        segments: segments as u32,
+    })
 }
 
+ghost use Rattle.gj_base.specs.Configuration.{IsConfiguration};
+
 fn replay_option<'a>(matches: &ArgMatches<'a>) -> Option<Task<'a>>
-    ensures counts { IfSome result HasCount }
+    ensures in_range { IfSome result IsTask }
     ensures exact { option_map asked_by result ≡ replay_in (rows_of (found_of matches.now)) }
 {
-    let conf = conf_option(matches)?;
+    let Size { capacity, segments } = size_option(matches)?;
     let store = path_option(matches)?;
-    Some(Task::Replay { conf, store })
+    Some(Task::Replay {
+        capacity,
+        segments,
+        store,
+    })
 }
 
 fn load_option<'a>(matches: &ArgMatches<'a>) -> Option<Task<'a>>
     ensures exact { option_map asked_by result ≡ load_in (rows_of (found_of matches.now)) }
-    ensures counts { IfSome result HasCount }
+    ensures in_range { IfSome result IsTask }
 {
-    let conf = conf_option(matches)?;
+    let Size { capacity, segments } = size_option(matches)?;
     let numbers = Range {
         least: 0,
         most: u64::MAX,
@@ -109,7 +125,8 @@ fn load_option<'a>(matches: &ArgMatches<'a>) -> Option<Task<'a>>
     };
     let count = number_option(matches, "count", counts, 10_000)?;
     Some(Task::Load {
-        conf,
+        capacity,
+        segments,
         number,
         count,
     })
@@ -118,7 +135,7 @@ fn load_option<'a>(matches: &ArgMatches<'a>) -> Option<Task<'a>>
 fn read_replay<'a>(alloc: Global, words: &'a [String]) -> Result<Task<'a>, WordsError>
     ensures ok { IfOk result (λ t. under replay_app replay_in (map (λ w. string_bytes w) words.entry.now) ≡ Some (asked_by t)) }
     ensures usage { IsErrOf result why.Usage → under replay_app replay_in (map (λ w. string_bytes w) words.entry.now) ≡ None }
-    ensures counts { IfOk result HasCount }
+    ensures in_range { IfOk result IsTask }
 {
     let Ok(mut command) = replay_command(alloc) else {
         return Err(WordsError::Memory);
@@ -133,7 +150,7 @@ fn read_replay<'a>(alloc: Global, words: &'a [String]) -> Result<Task<'a>, Words
 fn read_load<'a>(alloc: Global, words: &'a [String]) -> Result<Task<'a>, WordsError>
     ensures ok { IfOk result (λ t. under load_app load_in (map (λ w. string_bytes w) words.entry.now) ≡ Some (asked_by t)) }
     ensures usage { IsErrOf result why.Usage → under load_app load_in (map (λ w. string_bytes w) words.entry.now) ≡ None }
-    ensures counts { IfOk result HasCount }
+    ensures in_range { IfOk result IsTask }
 {
     let Ok(mut command) = load_command(alloc) else {
         return Err(WordsError::Memory);
@@ -150,7 +167,7 @@ fn read_load<'a>(alloc: Global, words: &'a [String]) -> Result<Task<'a>, WordsEr
 fn read_named<'a>(alloc: Global, name: &str, options: &'a [String]) -> Result<Task<'a>, WordsError>
     ensures ok { IfOk result (λ t. asked_of (name.now ∷ map (λ w. string_bytes w) options.entry.now) ≡ Some (asked_by t)) }
     ensures usage { IsErrOf result why.Usage → asked_of (name.now ∷ map (λ w. string_bytes w) options.entry.now) ≡ None }
-    ensures counts { IfOk result HasCount }
+    ensures in_range { IfOk result IsTask }
 {
     if name == "replay" {
         read_replay(alloc, options)
@@ -165,7 +182,7 @@ fn read_named<'a>(alloc: Global, name: &str, options: &'a [String]) -> Result<Ta
 pub fn read_words<'a>(alloc: Global, words: &'a [String]) -> Result<Task<'a>, WordsError>
     ensures ok { IfOk result (λ t. asked_of (map (λ w. string_bytes w) words.entry.now) ≡ Some (asked_by t)) }
     ensures usage { IsErrOf result why.Usage → asked_of (map (λ w. string_bytes w) words.entry.now) ≡ None }
-    ensures counts { IfOk result HasCount }
+    ensures in_range { IfOk result IsTask }
 {
     match words.split_first() {
         None => Err(WordsError::Usage),

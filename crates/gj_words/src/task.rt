@@ -1,14 +1,21 @@
 //! The commands.
 
-use gj_base::Conf;
-
-/// What the arguments ask for.
+/// What the arguments ask for. The capacity and the segments of the window are those of a configuration.
 #[derive(Clone, Copy, Debug)]
 pub enum Task<'a> {
     /// To answer a recorded stream of messages, over a window that the store at this path keeps, if one is named.
-    Replay { conf: Conf, store: Option<&'a str> },
+    Replay {
+        capacity: u32,
+        segments: u32,
+        store: Option<&'a str>,
+    },
     /// To make `count` interactions from a number, post them and walk over them.
-    Load { conf: Conf, number: u64, count: u64 },
+    Load {
+        capacity: u32,
+        segments: u32,
+        number: u64,
+        count: u64,
+    },
 }
 
 /// Why arguments ask for nothing.

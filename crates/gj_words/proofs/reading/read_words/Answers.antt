@@ -9,7 +9,7 @@ use Rattle.gj_words.proofs.reading.read_words.Goals as goal
 pub returns-in-None : goal.returns-in-None
 returns-in-None c =
     let none : length c.args.words.now ≡ 0 = c.in-None.ensures.cases in
-    record { ok = tt; usage = λ _. none_asked _ (length-map c.args.words.now string_bytes ∙ none); counts = tt }
+    record { ok = tt; usage = λ _. none_asked _ (length-map c.args.words.now string_bytes ∙ none); in_range = tt }
 
 pub returns-in-Some : goal.returns-in-Some
 returns-in-Some c =
@@ -19,5 +19,5 @@ returns-in-Some c =
     record {
       ok = subst (λ (words : List (List ℕ)). IfOk c.read_named.result (λ t. asked_of words ≡ Some (asked_by t))) same c.read_named.ensures.ok;
       usage = subst (λ (words : List (List ℕ)). IsErrOf c.read_named.result Usage → asked_of words ≡ None) same c.read_named.ensures.usage;
-      counts = c.read_named.ensures.counts;
+      in_range = c.read_named.ensures.in_range;
     }
