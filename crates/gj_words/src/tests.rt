@@ -17,17 +17,21 @@ fn words(alloc: Global, line: &str) -> Result<Vec<String>, AllocError> {
 fn told(alloc: Global, line: &str) -> Result<String, Fail> {
     let words = words(alloc, line)?;
     let text = match read_words(alloc, words.as_slice()) {
-        Ok(Task::Replay {
-            capacity,
-            segments,
-            store,
-        }) => format!(in alloc; "replay {capacity} {segments} {store:?}")?,
-        Ok(Task::Load {
-            capacity,
-            segments,
-            number,
-            count,
-        }) => format!(in alloc; "load {capacity} {segments} {number} {count}")?,
+        Ok(
+            Task::Replay {
+                capacity,
+                segments,
+                store,
+            },
+        ) => format!(in alloc; "replay {capacity} {segments} {store:?}")?,
+        Ok(
+            Task::Load {
+                capacity,
+                segments,
+                number,
+                count,
+            },
+        ) => format!(in alloc; "load {capacity} {segments} {number} {count}")?,
         Err(WordsError::Usage) => String::from_str(alloc, "usage")?,
         Err(WordsError::Memory) => String::from_str(alloc, "memory")?,
     };

@@ -1,20 +1,25 @@
-//! graphjet: the program. It answers a recorded stream of HTTP requests from standard input to standard output.
+//! graphjet: the program. It answers a recorded stream of HTTP requests from standard input to standard output, and makes
+//! workloads.
 #![tactic(auto)]
 
 mod arguments;
 mod devices;
 #[cfg(test)]
 mod edge_tests;
+mod lines;
+mod loading;
 mod local;
+mod replaying;
 mod run_status;
-mod stores;
+#[cfg(test)]
+mod store_tests;
 #[cfg(test)]
 mod tests;
 
 use crate::arguments::words_of;
 use crate::devices::{StreamSink, StreamSource};
 use crate::local::{report, run_local};
-use crate::stores::NoKeepers;
+use gj_keep::NoKeepers;
 use std::process::ExitCode;
 
 fn main(rt: HostRuntime) -> ExitCode {

@@ -2,8 +2,8 @@
 ghost use Rattle.std.specs.Prelude.{◌<◌};
 
 use crate::local::run_local;
-use crate::stores::NoKeepers;
 use gj_base::{MemorySink, MemorySource};
+use gj_keep::NoKeepers;
 use std::alloc::Global;
 use std::test::Fail;
 
