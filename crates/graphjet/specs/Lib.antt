@@ -1,2 +1,4 @@
-pub mod Headline
+pub mod Lines
+pub mod Replays
+pub mod Runs
 pub mod Statuses

@@ -1,9 +1,11 @@
--- The program's statuses, and the lines that say why. Own: the numbers and the texts.
-use Rattle.std.specs.Prelude.{ℕ, List, [], codes}
+-- The program's statuses. Own: their numbers.
+use Rattle.std.specs.Prelude.{ℕ, Bool, true, false}
+use Rattle.gj_keep.specs.declared.opening.OpenError.{OpenError}
+use Rattle.gj_keep.specs.declared.opening.OpenError.TheVariants as open_error
 use Rattle.gj_session.specs.declared.outcome.End.{End}
 use Rattle.gj_session.specs.declared.outcome.End.TheVariants as ends
 use Rattle.graphjet.specs.declared.run_status.RunStatus.{RunStatus}
-use Rattle.graphjet.specs.declared.run_status.RunStatus.TheVariants.{Done, Usage, ReadFault, WriteFault, Truncated, Memory, StoppedEarly, TooManyReads}
+use Rattle.graphjet.specs.declared.run_status.RunStatus.TheVariants.{Done, Usage, ReadFault, WriteFault, StoreFault, Truncated, Memory, StoppedEarly, TooManyReads, ConfDiffers, KeptRow}
 
 -- the number of a status
 abbrev pub code_of : RunStatus → ℕ
@@ -11,21 +13,13 @@ code_of Done = 0
 code_of Usage = 2
 code_of ReadFault = 3
 code_of WriteFault = 4
+code_of StoreFault = 5
 code_of Truncated = 6
 code_of Memory = 7
 code_of StoppedEarly = 9
 code_of TooManyReads = 10
-
--- the line that says why
-abbrev pub line_of : RunStatus → List ℕ
-line_of Done = []
-line_of Usage = codes "usage: graphjet replay|serve|load [options]\n"
-line_of ReadFault = codes "read fault\n"
-line_of WriteFault = codes "write fault\n"
-line_of Truncated = codes "truncated input\n"
-line_of Memory = codes "out of memory\n"
-line_of StoppedEarly = codes "stopped early\n"
-line_of TooManyReads = codes "too many reads\n"
+code_of (ConfDiffers kept asked) = 11
+code_of (KeptRow row) = 12
 
 -- the status of a session by its end
 abbrev pub status_of_end : End → RunStatus
@@ -36,3 +30,25 @@ status_of_end ends.Truncated = Truncated
 status_of_end ends.ReadFault = ReadFault
 status_of_end ends.WriteFault = WriteFault
 status_of_end ends.Turns = TooManyReads
+
+-- the status of a refused opening. An opening of a book asks for no reader's place
+abbrev pub status_of_refusal : OpenError → RunStatus
+status_of_refusal open_error.Memory = Memory
+status_of_refusal open_error.Store = StoreFault
+status_of_refusal (open_error.ConfDiffers kept asked) = ConfDiffers kept asked
+status_of_refusal (open_error.KeptRow row) = KeptRow row
+status_of_refusal open_error.Place = Memory
+
+-- a replay with this status ran a session
+abbrev pub is_session : RunStatus → Bool
+is_session Done = true
+is_session ReadFault = true
+is_session WriteFault = true
+is_session Truncated = true
+is_session StoppedEarly = true
+is_session TooManyReads = true
+is_session Usage = false
+is_session StoreFault = false
+is_session Memory = false
+is_session (ConfDiffers kept asked) = false
+is_session (KeptRow row) = false

@@ -7,13 +7,23 @@ use std::io::{Read, Write};
 #[derive(Drop)]
 pub struct StreamSource<R: Read> {
     inner: R,
+    reads: u64,
     faults: u64,
 }
 
 impl<R: Read> StreamSource<R> {
-    /// The stream, of which no call has failed yet.
-    pub fn new(inner: R) -> Self {
-        StreamSource { inner, faults: 0 }
+    ghost use Rattle.std.specs.Prelude.{◌≡◌};
+
+    /// The stream, of which no call was made and none has failed yet.
+    pub fn new(inner: R) -> Self
+        ensures reads { result.reads ≡ 0 }
+        ensures faults { result.faults ≡ 0 }
+    {
+        StreamSource {
+            inner,
+            reads: 0,
+            faults: 0,
+        }
     }
 }
 
@@ -24,11 +34,14 @@ impl<R: Read> Source for StreamSource<R> {
 
     ghost stream = { λ _. record { taken = []; left = [] } };
 
+    ghost reads = { λ s. s.reads };
+
     ghost faults = { λ s. s.faults };
 
     ghost steady = { λ _. ⊥ };
 
     fn read(&mut self, into: &mut [u8]) -> Result<usize, Failed> {
+        self.reads = self.reads.saturating_add(1);
         match self.inner.read(into) {
             Ok(n) => Ok(n),
             Err(_) => {
@@ -47,8 +60,12 @@ pub struct StreamSink<W: Write> {
 }
 
 impl<W: Write> StreamSink<W> {
+    ghost use Rattle.std.specs.Prelude.{◌≡◌};
+
     /// The stream, of which no call has failed yet.
-    pub fn new(inner: W) -> Self {
+    pub fn new(inner: W) -> Self
+        ensures { result.faults ≡ 0 }
+    {
         StreamSink { inner, faults: 0 }
     }
 }

@@ -1,130 +1,98 @@
 //! The commands that serve no connection.
-ghost use Rattle.std.specs.Prelude.{◌≡◌, ◌≢◌, ◌⊎◌, ◌≤◌, ◌↔◌, IsTrue, IfOk, codes, map, string_bytes};
+ghost use Rattle.std.specs.Prelude.{◌≡◌, ◌≢◌, ◌⊎◌, ℕ, ◌+◌, ◌^◌, ◌<◌, ◌≤◌, ◌++◌, IsTrue, List, Option, Some, None, false, length, map, string_bytes, take};
 ghost use Rattle.gj_base.specs.Causes.{Rose};
-ghost use Rattle.gj_base.specs.History.{empty_shown};
-ghost use Rattle.gj_base.specs.ListGraphs.{shown_by};
-ghost use Rattle.graphjet.specs.Headline.{Headline, IsReplay, Reports, program_conf};
-ghost use Rattle.graphjet.specs.Statuses.{code_of, line_of};
+ghost use Rattle.gj_base.specs.Configuration.{Configuration, IsConfiguration};
+ghost use Rattle.gj_session.specs.Streams.{incoming, outgoing};
+ghost use Rattle.gj_words.specs.Tasks.{Load, Replay, asked_of};
+ghost use Rattle.graphjet.specs.Lines.{line_of};
+ghost use Rattle.graphjet.specs.Replays.{Causes, stores_at};
+ghost use Rattle.graphjet.specs.Runs.{Does, Obeys};
+ghost use Rattle.graphjet.specs.Statuses.{is_session};
 ghost use Rattle.graphjet.specs.declared.run_status.RunStatus.TheVariants as statuses;
 
-use crate::run_status::{RunStatus, status_of};
-use gj_base::{Conf, Grow, Keepers, ListGraph, Memory, Sink, Source};
-use gj_http::{Framer, Routes};
-use gj_session::{replay_session, send};
+use crate::lines::status_line;
+use crate::loading::load;
+use crate::replaying::replay;
+use crate::run_status::RunStatus;
+use gj_base::{Conf, Keepers, Sink, Source};
+use gj_session::send;
+use gj_words::{Task, WordsError, read_words};
 use std::alloc::Global;
 
-/// The most reads of a session.
-const TURNS: u64 = 1_099_511_627_776;
-
-/// The interactions of a segment, and the segments of the window.
-const CAPACITY: u32 = 4096;
-
-const SEGMENTS: u32 = 4;
-
-/// What a session stands on.
-#[derive(Drop)]
-struct Parts {
-    index: ListGraph,
-    routes: Routes,
-    framer: Framer,
-}
-
-/// An empty window, the routes and a framer. It takes the memory of the three.
-fn make_parts(alloc: Global) -> Result<Parts, Memory>
-    ensures { IfOk result (λ p. shown_by p.index ≡ empty_shown program_conf 0) }
+/// The configuration of these numbers.
+fn window(capacity: u32, segments: u32) -> Conf
+    requires { IsConfiguration capacity segments }
+    ensures { result ≡ record { capacity = capacity; segments = segments } }
 {
-    let index = ListGraph::make(alloc, program_window(), 0)?;
-    let routes = Routes::new(alloc)?;
-    let framer = Framer::new(alloc)?;
-    Ok(Parts {
-        index,
-        routes,
-        framer,
-    })
+    Conf::make(capacity, segments).unwrap()
 }
 
-/// The configuration of the window.
-fn program_window() -> Conf
-    ensures { result ≡ program_conf }
-{
-    Conf::make(CAPACITY, SEGMENTS).unwrap()
-}
-
-/// Whether the words ask for a replay.
-fn asks_replay(words: &[String]) -> bool
-    ensures { IsTrue result ↔ IsReplay (map (λ w. string_bytes w) words.now) }
-{
-    match words {
-        [word] => is_replay(word.as_str()),
-        _ => false,
-    }
-}
-
-/// Whether the word is the command's.
-fn is_replay(word: &str) -> bool
-    ensures { IsTrue result ↔ (word.now ≡ codes "replay") }
-{
-    word == "replay"
-}
-
-/// Replays the session of the source.
-fn replay<S: Source, O: Sink>(alloc: Global, input: &mut S, out: &mut O) -> RunStatus
-    ensures never { result ≢ RunStatus.Usage }
-    ensures memory { result ≡ RunStatus.Memory → (input.new ≡ input.old) × (out.new ≡ out.old) }
-    ensures headline { result ≢ RunStatus.Memory → Headline (IsTrue (S.tells input.old)) (IsTrue (O.tells out.old))
-        (S.stream input.old) (S.stream input.new) (O.written out.old) (O.written out.new) (code_of result) }
-    ensures read_cause { result ≡ RunStatus.ReadFault → Rose (S.faults input.old) (S.faults input.new) }
-    ensures write_cause { result ≡ RunStatus.WriteFault → Rose (O.faults out.old) (O.faults out.new) }
-    ensures steady { S.steady input.old → result ≢ RunStatus.ReadFault }
-{
-    match make_parts(alloc) {
-        Err(Memory) => RunStatus::Memory,
-        Ok(
-            Parts {
-                mut index,
-                routes,
-                mut framer,
-            },
-        ) => status_of(replay_session(alloc, &mut index, &routes, &mut framer, input, out, TURNS)),
-    }
-}
-
-/// Does what the words ask for.
-fn obey<S: Source, O: Sink>(
+/// Does what the arguments ask for.
+fn obey<S: Source, O: Sink, P: Keepers>(
     alloc: Global,
     words: &[String],
     input: &mut S,
     out: &mut O,
+    stores: &mut P,
 ) -> RunStatus
-    ensures usage { (result ≡ RunStatus.Usage) ↔ (IsReplay (map (λ w. string_bytes w) words.now) → ⊥) }
-    ensures untouched { (result ≡ RunStatus.Usage) ⊎ (result ≡ RunStatus.Memory) → (input.new ≡ input.old) × (out.new ≡ out.old) }
-    ensures headline { result ≢ RunStatus.Usage → result ≢ RunStatus.Memory → Headline (IsTrue (S.tells input.old)) (IsTrue (O.tells out.old))
-        (S.stream input.old) (S.stream input.new) (O.written out.old) (O.written out.new) (code_of result) }
-    ensures read_cause { result ≡ RunStatus.ReadFault → Rose (S.faults input.old) (S.faults input.new) }
-    ensures write_cause { result ≡ RunStatus.WriteFault → Rose (O.faults out.old) (O.faults out.new) }
-    ensures steady { S.steady input.old → result ≢ RunStatus.ReadFault }
+    requires { IsTrue (P.home stores.old) }
+    ensures does { Does (asked_of (map (λ w. string_bytes w) words.now))
+        (stores_at (P.stored stores.old) (P.faults stores.old)) (stores_at (P.stored stores.new) (P.faults stores.new))
+        (incoming (S.tells input.old) (S.stream input.old) (S.faults input.old) (S.reads input.old))
+        (incoming (S.tells input.new) (S.stream input.new) (S.faults input.new) (S.reads input.new))
+        (outgoing (O.tells out.old) (O.written out.old) (O.faults out.old) (O.sure out.old))
+        (outgoing (O.tells out.new) (O.written out.new) (O.faults out.new) (O.sure out.new)) result }
+    ensures usage { result ≡ statuses.Usage → asked_of (map (λ w. string_bytes w) words.now) ≡ None }
+    ensures untouched { is_session result ≡ false → (input.new ≡ input.old) × (out.new ≡ out.old) }
+    ensures causes { Causes
+        (incoming (S.tells input.old) (S.stream input.old) (S.faults input.old) (S.reads input.old))
+        (incoming (S.tells input.new) (S.stream input.new) (S.faults input.new) (S.reads input.new))
+        (outgoing (O.tells out.old) (O.written out.old) (O.faults out.old) (O.sure out.old))
+        (outgoing (O.tells out.new) (O.written out.new) (O.faults out.new) (O.sure out.new)) (S.steady input.old) result }
+    ensures room { (conf : Configuration) (store : Option (List ℕ)) → asked_of (map (λ w. string_bytes w) words.now) ≡ Some (Replay conf store)
+        → IsTrue (O.tells out.old) → result ≡ statuses.WriteFault → O.sure out.old + length (O.written out.old) ≤ length (O.written out.new) }
+    ensures store_cause { result ≡ statuses.StoreFault → Rose (P.faults stores.old) (P.faults stores.new) }
+    ensures home { IsTrue (P.home stores.new) }
+    ensures later { P.faults stores.old ≤ P.faults stores.new }
+    ensures elsewhere { ((conf : Configuration) (path : List ℕ) → asked_of (map (λ w. string_bytes w) words.now) ≡ Some (Replay conf (Some path)) → ⊥) → stores.new ≡ stores.old }
+    ensures unread { (conf : Configuration) (number count : ℕ) → asked_of (map (λ w. string_bytes w) words.now) ≡ Some (Load conf number count) → input.new ≡ input.old }
 {
-    if asks_replay(words) {
-        replay(alloc, input, out)
-    } else {
-        RunStatus::Usage
+    match read_words(alloc, words) {
+        Err(WordsError::Usage) => RunStatus::Usage,
+        Err(WordsError::Memory) => RunStatus::Memory,
+        Ok(
+            Task::Replay {
+                capacity,
+                segments,
+                store,
+            },
+        ) => replay(alloc, window(capacity, segments), store, input, out, stores),
+        Ok(
+            Task::Load {
+                capacity,
+                segments,
+                number,
+                count,
+            },
+        ) => load(alloc, window(capacity, segments), number, count, out),
     }
 }
 
 /// Writes the status's line. A write that fails is passed over.
-fn report<E: Sink>(err: &mut E, status: RunStatus)
+pub fn report<E: Sink>(err: &mut E, status: RunStatus)
     ensures part { IsTrue (E.tells err.old) → (k : ℕ) × (E.written err.new ≡ E.written err.old ++ take k (line_of status)) }
     ensures whole { IsTrue (E.tells err.old) → (Rose (E.faults err.old) (E.faults err.new) → ⊥) → E.written err.new ≡ E.written err.old ++ line_of status }
 {
-    let _ = send(err, status.line());
+    let line = status_line(status);
+    let _ = send(err, line.as_str().as_bytes());
 }
 
-ghost use Rattle.std.specs.Prelude.{ℕ, ◌++◌, take};
-
-/// Does what the words ask for, and answers the program's status: `replay` alone so far, which answers the messages of
-/// `input` on `out` from the empty history. For each status but 0 one line goes to `err`. No call on `stores` is made. It
-/// takes the memory of the window, the routes and the framer before the session, and of the asks and replies in it; it
-/// waits where the streams do.
+/// Does what the arguments after the program's name ask for, and answers the program's status.
+///
+/// `replay` answers the messages of `input` on `out`, over a window that begins empty, or that the keeper of `stores`
+/// keeps where a store is named; the keeper comes home, however the run ended. `load` makes interactions from a number and
+/// writes what comes of them. For each status but 0 one line goes to `err`. It takes the memory of the window before the
+/// session, and of the asks and replies in it; it waits where the streams and the stores do.
 pub fn run_local<S: Source, O: Sink, E: Sink, P: Keepers>(
     alloc: Global,
     words: &[String],
@@ -133,23 +101,39 @@ pub fn run_local<S: Source, O: Sink, E: Sink, P: Keepers>(
     err: &mut E,
     stores: &mut P,
 ) -> u8
-    // Over the words, and for want of memory before the session, nothing is taken and nothing written.
-    ensures usage { (result ≡ 2) ↔ (IsReplay (map (λ w. string_bytes w) words.now) → ⊥) }
-    ensures untouched { (result ≡ 2) ⊎ (result ≡ 7) → (input.new ≡ input.old) × (out.new ≡ out.old) }
+    requires home { IsTrue (P.home stores.old) }
 
-    // Otherwise the headline holds.
-    ensures headline { result ≢ 2 → result ≢ 7 → Headline (IsTrue (S.tells input.old)) (IsTrue (O.tells out.old))
-        (S.stream input.old) (S.stream input.new) (O.written out.old) (O.written out.new) result }
+    // What was asked for was done, and told on `err`.
+    ensures obeys { Obeys (asked_of (map (λ w. string_bytes w) words.now))
+        (stores_at (P.stored stores.old) (P.faults stores.old)) (stores_at (P.stored stores.new) (P.faults stores.new))
+        (incoming (S.tells input.old) (S.stream input.old) (S.faults input.old) (S.reads input.old))
+        (incoming (S.tells input.new) (S.stream input.new) (S.faults input.new) (S.reads input.new))
+        (outgoing (O.tells out.old) (O.written out.old) (O.faults out.old) (O.sure out.old))
+        (outgoing (O.tells out.new) (O.written out.new) (O.faults out.new) (O.sure out.new))
+        (outgoing (E.tells err.old) (E.written err.old) (E.faults err.old) (E.sure err.old))
+        (outgoing (E.tells err.new) (E.written err.new) (E.faults err.new) (E.sure err.new)) result }
+    ensures usage { result ≡ 2 → asked_of (map (λ w. string_bytes w) words.now) ≡ None }
 
     // The causes of faults.
     ensures read_cause { result ≡ 3 → Rose (S.faults input.old) (S.faults input.new) }
     ensures write_cause { result ≡ 4 → Rose (O.faults out.old) (O.faults out.new) }
-    ensures steady { S.steady input.old → result ≢ 3 }
+    ensures store_cause { result ≡ 5 → Rose (P.faults stores.old) (P.faults stores.new) }
 
-    ensures line { Reports (IsTrue (E.tells err.old)) (Rose (E.faults err.old) (E.faults err.new)) (E.written err.old) (E.written err.new) result }
-    ensures stores { stores.new ≡ stores.old }
+    // What doesn't come: a fault of a source that fails no more, a fault of a sink before a replay has spent its room, and
+    // too many reads of fewer than 2^40 bytes.
+    ensures steady { S.steady input.old → result ≢ 3 }
+    ensures room { (conf : Configuration) (store : Option (List ℕ)) → asked_of (map (λ w. string_bytes w) words.now) ≡ Some (Replay conf store)
+        → IsTrue (O.tells out.old) → result ≡ 4 → O.sure out.old + length (O.written out.old) ≤ length (O.written out.new) }
+    ensures short { IsTrue (S.tells input.old) → length (S.stream input.old).left < 2 ^ 40 → result ≢ 10 }
+
+    // What stays: the streams where no session ran and no summary was written, and stores that were not asked for.
+    ensures untouched { (result ≡ 2) ⊎ (result ≡ 5) ⊎ (result ≡ 7) ⊎ (result ≡ 11) ⊎ (result ≡ 12) → (input.new ≡ input.old) × (out.new ≡ out.old) }
+    ensures unread { (conf : Configuration) (number count : ℕ) → asked_of (map (λ w. string_bytes w) words.now) ≡ Some (Load conf number count) → input.new ≡ input.old }
+    ensures elsewhere { ((conf : Configuration) (path : List ℕ) → asked_of (map (λ w. string_bytes w) words.now) ≡ Some (Replay conf (Some path)) → ⊥) → stores.new ≡ stores.old }
+    ensures home { IsTrue (P.home stores.new) }
+    ensures later { P.faults stores.old ≤ P.faults stores.new }
 {
-    let status = obey(alloc, words, input, out);
+    let status = obey(alloc, words, input, out, stores);
     report(err, status);
     status.code()
 }

@@ -1,32 +1,26 @@
-//! graphjet: the program. It answers a recorded stream of HTTP requests from standard input to standard output.
+//! graphjet: the program. It answers a recorded stream of HTTP requests from standard input to standard output, and makes
+//! workloads.
 #![tactic(auto)]
 
+mod arguments;
 mod devices;
+#[cfg(test)]
+mod edge_tests;
+mod lines;
+mod loading;
 mod local;
+mod replaying;
 mod run_status;
-mod stores;
+#[cfg(test)]
+mod store_tests;
 #[cfg(test)]
 mod tests;
 
+use crate::arguments::words_of;
 use crate::devices::{StreamSink, StreamSource};
-use crate::local::run_local;
-use crate::run_status::RunStatus;
-use crate::stores::NoKeepers;
-use std::alloc::Global;
+use crate::local::{report, run_local};
+use gj_keep::NoKeepers;
 use std::process::ExitCode;
-use std::rt::Env;
-use std::{env, io};
-
-/// The words after the program's name.
-fn words_of(rt: &(impl Env + Alloc<A = Global>)) -> io::Result<Vec<String>> {
-    let mut words = Vec::new(rt.alloc());
-    let mut all = env::args(rt)?;
-    let _program = all.next();
-    for word in all {
-        words.push(word)?;
-    }
-    Ok(words)
-}
 
 fn main(rt: HostRuntime) -> ExitCode {
     let mut input = StreamSource::new(rt.stdin());
@@ -42,7 +36,10 @@ fn main(rt: HostRuntime) -> ExitCode {
             &mut err,
             &mut stores,
         ),
-        Err(_) => RunStatus::Memory.code(),
+        Err(status) => {
+            report(&mut err, status);
+            status.code()
+        }
     };
     ExitCode::from(status)
 }

@@ -1,33 +1,39 @@
 //! How a run ended, as a script sees it.
-ghost use Rattle.std.specs.Prelude.{◌≡◌};
-ghost use Rattle.graphjet.specs.Statuses.{code_of, line_of, status_of_end};
 
+use gj_base::KeptConf;
+use gj_keep::OpenError;
 use gj_session::End;
 
 /// How a run ended. The number of each is the program's status.
 #[derive(Clone, Copy, Debug, PartialEq, Eq)]
 pub enum RunStatus {
-    /// 0: the whole input was answered.
+    /// 0: the whole input was answered, or the summary written.
     Done,
-    /// 2: the words ask for nothing that the program does.
+    /// 2: the arguments ask for nothing that the program does.
     Usage,
     /// 3: reading the input failed.
     ReadFault,
-    /// 4: writing the replies failed.
+    /// 4: writing to the output failed.
     WriteFault,
+    /// 5: a call of the store failed before the session.
+    StoreFault,
     /// 6: the input ended inside a message.
     Truncated,
-    /// 7: no memory was found before the session.
+    /// 7: no memory was found before the session or the summary.
     Memory,
     /// 9: a refusal, or a message that asks for close, ended the session.
     StoppedEarly,
     /// 10: more reads were needed than are allowed.
     TooManyReads,
+    /// 11: a store keeps another configuration than the asked one.
+    ConfDiffers { kept: KeptConf, asked: KeptConf },
+    /// 12: the row with this index is the first that is none of a history.
+    KeptRow { row: u64 },
 }
 
 impl RunStatus {
     ghost use Rattle.std.specs.Prelude.{◌≡◌};
-    ghost use Rattle.graphjet.specs.Statuses.{code_of, line_of};
+    ghost use Rattle.graphjet.specs.Statuses.{code_of};
 
     /// The program's status.
     pub fn code(self) -> u8
@@ -38,29 +44,20 @@ impl RunStatus {
             RunStatus::Usage => 2,
             RunStatus::ReadFault => 3,
             RunStatus::WriteFault => 4,
+            RunStatus::StoreFault => 5,
             RunStatus::Truncated => 6,
             RunStatus::Memory => 7,
             RunStatus::StoppedEarly => 9,
             RunStatus::TooManyReads => 10,
-        }
-    }
-
-    /// The line that says why, with its line feed; empty where all is well.
-    pub fn line(self) -> &'static [u8]
-        ensures { result.now ≡ line_of self }
-    {
-        match self {
-            RunStatus::Done => b"",
-            RunStatus::Usage => b"usage: graphjet replay|serve|load [options]\n",
-            RunStatus::ReadFault => b"read fault\n",
-            RunStatus::WriteFault => b"write fault\n",
-            RunStatus::Truncated => b"truncated input\n",
-            RunStatus::Memory => b"out of memory\n",
-            RunStatus::StoppedEarly => b"stopped early\n",
-            RunStatus::TooManyReads => b"too many reads\n",
+            RunStatus::ConfDiffers { .. } => 11,
+            RunStatus::KeptRow { .. } => 12,
         }
     }
 }
+
+ghost use Rattle.std.specs.Prelude.{◌≡◌, ◌≢◌};
+ghost use Rattle.graphjet.specs.Statuses.{status_of_end, status_of_refusal};
+ghost use Rattle.gj_keep.specs.declared.opening.OpenError.TheVariants.{Place};
 
 /// The status of a session by its end.
 pub fn status_of(end: End) -> RunStatus
@@ -73,5 +70,19 @@ pub fn status_of(end: End) -> RunStatus
         End::ReadFault => RunStatus::ReadFault,
         End::WriteFault => RunStatus::WriteFault,
         End::Turns => RunStatus::TooManyReads,
+    }
+}
+
+/// The status of a refused opening of a local index, which asks for no reader's place.
+pub fn status_of_refusal(why: OpenError) -> RunStatus
+    requires { why ≢ Place }
+    ensures { result ≡ status_of_refusal why }
+{
+    match why {
+        OpenError::Memory => RunStatus::Memory,
+        OpenError::Store => RunStatus::StoreFault,
+        OpenError::ConfDiffers { kept, asked } => RunStatus::ConfDiffers { kept, asked },
+        OpenError::KeptRow { row } => RunStatus::KeptRow { row },
+        OpenError::Place => unreachable!(),
     }
 }

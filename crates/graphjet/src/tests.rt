@@ -2,10 +2,8 @@
 ghost use Rattle.std.specs.Prelude.{◌<◌};
 
 use crate::local::run_local;
-use crate::stores::NoKeepers;
-use gj_base::{Conf, Grow, ListGraph, MemorySink, MemorySource};
-use gj_http::{Framer, Routes};
-use gj_session::{End, replay_session};
+use gj_base::{MemorySink, MemorySource};
+use gj_keep::NoKeepers;
 use std::alloc::Global;
 use std::test::Fail;
 
@@ -157,28 +155,5 @@ fn other_words_are_no_command(rt: HostRuntime) -> Result<(), Fail> {
         ran.err.written(),
         b"usage: graphjet replay|serve|load [options]\n".as_slice()
     );
-    Ok(())
-}
-
-#[test]
-fn a_session_ends_after_its_turns(rt: HostRuntime) -> Result<(), Fail> {
-    let alloc = rt.alloc();
-    let conf = Conf::make(16, 1).ok_or("no configuration")?;
-    let mut index = ListGraph::make(alloc, conf, 0)?;
-    let routes = Routes::new(alloc)?;
-    let mut framer = Framer::new(alloc)?;
-    let mut input = MemorySource::new(POST.to_vec(alloc)?, 1, Vec::new(alloc));
-    let mut out = MemorySink::new(alloc, 4096, 4096, Vec::new(alloc))?;
-    let end = replay_session(
-        alloc,
-        &mut index,
-        &routes,
-        &mut framer,
-        &mut input,
-        &mut out,
-        3,
-    );
-    assert_eq!(rt; end, End::Turns);
-    assert!(rt; out.written().is_empty());
     Ok(())
 }

@@ -1,0 +1,2 @@
+pub mod WorkloadLemmas
+pub mod TotalsLemmas

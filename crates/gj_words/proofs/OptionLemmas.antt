@@ -1,0 +1,35 @@
+-- The options of the commands, and their values.
+use Rattle.std.proofs.Common.{◌≡◌, ℕ, ◌&&◌, Bool, true, false, List, [], ◌∷◌, length, refl, arith}
+use Rattle.std.specs.Prelude.{Some, None}
+use Rattle.clap.specs.Faults.{is_simple_and_free}
+use Rattle.gj_words.specs.Options.{replay_app, load_app}
+use Rattle.gj_words.specs.Tasks.{asked_of}
+use Rattle.gj_words.specs.Values.{path_in}
+
+-- an empty path is refused
+pub path_none : (text : List ℕ) → length text ≡ 0 → None ≡ path_in (Some text)
+path_none [] e = refl
+path_none (x ∷ text) e = absurd (omega arith)
+
+-- any other path is taken
+pub path_some : (text : List ℕ) → (length text ≡ 0 → ⊥) → Some (Some text) ≡ path_in (Some text)
+path_some [] some = absurd (some refl)
+path_some (x ∷ text) some = refl
+
+pub replay_simple : is_simple_and_free replay_app ≡ true
+unfolding replay_app
+replay_simple = refl
+
+pub load_simple : is_simple_and_free load_app ≡ true
+unfolding load_app
+load_simple = refl
+
+pub first_of_both : (a b : Bool) → (a && b) ≡ true → a ≡ true
+first_of_both true b e = refl
+first_of_both false b e = cc
+
+-- without a first argument nothing is asked for
+pub none_asked : (words : List (List ℕ)) → length words ≡ 0 → asked_of words ≡ None
+unfolding asked_of
+none_asked [] e = refl
+none_asked (word ∷ words) e = absurd (omega arith)

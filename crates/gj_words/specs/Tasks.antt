@@ -1,0 +1,58 @@
+-- What the arguments of the program ask for. Own: the commands, and the ranges and defaults of their options.
+use Rattle.std.specs.Prelude.{ℕ, ◌<◌, ◌≤◌, List, [], ◌∷◌, Option, Some, None, codes, option_map, option_and_then, if◌then◌else◌}
+use Rattle.std.specs.Str.{bytes_eq}
+use Rattle.gj_base.specs.Configuration.{Configuration, IsConfiguration}
+use Rattle.clap.specs.Faults.{fault_of}
+use Rattle.clap.specs.Simple.{App, matches_of}
+use Rattle.clap.specs.Walk.{Row, Text, first_of, is_empty}
+use Rattle.gj_words.specs.Options.{replay_app, load_app}
+use Rattle.gj_words.specs.Values.{number_in, path_in}
+use Rattle.gj_words.specs.declared.task.Task.{Task}
+use Rattle.gj_words.specs.declared.task.Task.TheVariants as task
+
+-- what is asked for: a replay over a window, kept at a path or not; or a load over a window, of a number and a count
+pub data Asked : Type 0 where
+  Replay : Configuration → Option Text → Asked
+  Load : Configuration → ℕ → ℕ → Asked
+
+-- what a task asks for
+abbrev pub asked_by : Task → Asked
+asked_by (task.Replay capacity segments store) = Replay (record { capacity = capacity; segments = segments }) (option_map (λ path. path.now) store)
+asked_by (task.Load capacity segments number count) = Load (record { capacity = capacity; segments = segments }) number count
+
+-- the numbers of a task are in their ranges
+abbrev pub IsTask : Task → Type 0
+IsTask (task.Replay capacity segments store) = IsConfiguration capacity segments
+IsTask (task.Load capacity segments number count) = IsConfiguration capacity segments × (0 < count) × (count ≤ 1000000)
+
+-- a number of an option
+abbrev pub number_at : Text → ℕ → ℕ → ℕ → List Row → Option ℕ
+number_at name least most default rows = number_in (record { least = least; most = most }) default (first_of name rows)
+
+-- the window that the options ask for
+abbrev pub conf_in : List Row → Option Configuration
+conf_in rows =
+    option_and_then (λ capacity. option_map (λ segments. record { capacity = capacity; segments = segments })
+    (number_at (codes "segments") 1 64 4 rows)) (number_at (codes "capacity") 16 65536 4096 rows)
+
+-- the replay that the options ask for
+abbrev pub replay_in : List Row → Option Asked
+replay_in rows = option_and_then (λ conf. option_map (λ store. Replay conf store) (path_in (first_of (codes "store") rows))) (conf_in rows)
+
+-- the load that the options ask for
+abbrev pub load_in : List Row → Option Asked
+load_in rows =
+    option_and_then (λ conf. option_and_then (λ number. option_map (λ count. Load conf number count)
+    (number_at (codes "count") 1 1000000 10000 rows))
+    (number_at (codes "number") 0 18446744073709551615 1 rows)) (conf_in rows)
+
+-- what the options of a command ask for, where clap doesn't refuse the words
+abbrev pub under : App → (List Row → Option Asked) → List Text → Option Asked
+under app reads words = if is_empty (fault_of app words) then reads (matches_of app words) else None
+
+-- what words ask for, the command's name first
+unfoldable pub asked_of : List Text → Option Asked
+asked_of [] = None
+asked_of (name ∷ words) =
+    if bytes_eq name (codes "replay") then under replay_app replay_in words
+    else (if bytes_eq name (codes "load") then under load_app load_in words else None)

@@ -1,0 +1,28 @@
+//! The commands.
+
+/// What the arguments ask for. The capacity and the segments of the window are those of a configuration.
+#[derive(Clone, Copy, Debug)]
+pub enum Task<'a> {
+    /// To answer a recorded stream of messages, over a window that the store at this path keeps, if one is named.
+    Replay {
+        capacity: u32,
+        segments: u32,
+        store: Option<&'a str>,
+    },
+    /// To make `count` interactions from a number, post them and walk over them.
+    Load {
+        capacity: u32,
+        segments: u32,
+        number: u64,
+        count: u64,
+    },
+}
+
+/// Why arguments ask for nothing.
+#[derive(Clone, Copy, Debug, Drop, PartialEq, Eq)]
+pub enum WordsError {
+    /// There is no first argument, or it is no command, or its options are not of their form and range.
+    Usage,
+    /// No memory was found.
+    Memory,
+}

@@ -1,0 +1,195 @@
+//! The replay of a recorded stream, over a window that a store keeps or none.
+ghost use Rattle.std.specs.Prelude.{◌≡◌, ◌≢◌, ◌+◌, ◌^◌, ◌<◌, ◌≤◌, IsTrue, None, false, length, option_map};
+ghost use Rattle.gj_base.specs.Causes.{Rose, one_more};
+ghost use Rattle.gj_keep.specs.Books.{Keeps};
+ghost use Rattle.gj_keep.specs.Openings.{IsLeft, due};
+ghost use Rattle.gj_session.specs.Streams.{incoming, outgoing};
+ghost use Rattle.graphjet.specs.Replays.{Headline, Judges, OpensOver, Replays, stores_at};
+ghost use Rattle.graphjet.specs.Statuses.{is_session};
+ghost use Rattle.graphjet.specs.declared.run_status.RunStatus.TheVariants as statuses;
+
+use crate::run_status::{RunStatus, status_of, status_of_refusal};
+use gj_base::{Conf, Grow, KeepError, Keeper, Keepers, ListGraph, Memory, Sink, Source};
+use gj_http::{Framer, Routes};
+use gj_keep::{Local, NoKeeper, OpenRefused};
+use gj_session::replay_session;
+use std::alloc::Global;
+
+/// The most reads of a session.
+const TURNS: u64 = 1_099_511_627_776;
+
+/// What a session needs beside its index and its streams.
+#[derive(Drop)]
+struct Tools {
+    routes: Routes,
+    framer: Framer,
+}
+
+impl Tools {
+    fn new(alloc: Global) -> Result<Tools, Memory> {
+        let routes = Routes::new(alloc)?;
+        let framer = Framer::new(alloc)?;
+        Ok(Tools { routes, framer })
+    }
+}
+
+/// The keeper that comes back from a replay, and how the replay ended.
+struct Over<K> {
+    keeper: K,
+    status: RunStatus,
+}
+
+/// Replays the stream over the window that the keeper keeps. It takes the memory of the window before the session.
+fn replay_over<K: Keeper, W: Grow + Drop, S: Source, O: Sink>(
+    alloc: Global,
+    conf: Conf,
+    keeper: K,
+    tools: &mut Tools,
+    input: &mut S,
+    out: &mut O,
+) -> Over<K>
+    ensures session { IsTrue (is_session result.status)
+        → Headline conf (OpensOver (K.kept keeper)) (Keeps conf (K.kept result.keeper)) (K.faults keeper) (K.faults result.keeper)
+        (incoming (S.tells input.old) (S.stream input.old) (S.faults input.old) (S.reads input.old))
+        (incoming (S.tells input.new) (S.stream input.new) (S.faults input.new) (S.reads input.new))
+        (outgoing (O.tells out.old) (O.written out.old) (O.faults out.old) (O.sure out.old))
+        (outgoing (O.tells out.new) (O.written out.new) (O.faults out.new) (O.sure out.new)) result.status }
+
+    // Without a session nothing is taken and nothing written, and the opening is right.
+    ensures untouched { is_session result.status ≡ false → (input.new ≡ input.old) × (out.new ≡ out.old) }
+    ensures left { is_session result.status ≡ false → IsLeft conf (K.kept keeper) (K.kept result.keeper) }
+    ensures judged { IsTrue (K.kept keeper).tells → Judges (due conf (K.kept keeper)) result.status }
+    ensures bare { IsTrue (K.kept keeper).bare → Judges None result.status }
+    ensures asked { result.status ≢ statuses.Usage }
+
+    // The causes of faults.
+    ensures store_cause { result.status ≡ statuses.StoreFault → K.faults result.keeper ≡ one_more (K.faults keeper) }
+    ensures causes { Causes
+        (incoming (S.tells input.old) (S.stream input.old) (S.faults input.old) (S.reads input.old))
+        (incoming (S.tells input.new) (S.stream input.new) (S.faults input.new) (S.reads input.new))
+        (outgoing (O.tells out.old) (O.written out.old) (O.faults out.old) (O.sure out.old))
+        (outgoing (O.tells out.new) (O.written out.new) (O.faults out.new) (O.sure out.new)) (S.steady input.old) result.status }
+    ensures room { IsTrue (O.tells out.old) → result.status ≡ statuses.WriteFault → O.sure out.old + length (O.written out.old) ≤ length (O.written out.new) }
+{
+    match Local::<K, W>::open_local(alloc, conf, keeper) {
+        Err(OpenRefused { keeper, why }) => Over {
+            keeper,
+            status: status_of_refusal(why),
+        },
+        Ok(mut index) => {
+            let Tools { routes, framer } = tools;
+            let end = replay_session(alloc, &mut index, routes, framer, input, out, TURNS);
+            Over {
+                keeper: index.into_keeper(),
+                status: status_of(end),
+            }
+        }
+    }
+}
+
+/// Replays the stream over no store: its window begins empty, and is let go at the end.
+fn replay_bare<S: Source, O: Sink>(
+    alloc: Global,
+    conf: Conf,
+    tools: &mut Tools,
+    input: &mut S,
+    out: &mut O,
+) -> RunStatus
+    ensures does { (a : StoresAt) → Replays conf None a a
+        (incoming (S.tells input.old) (S.stream input.old) (S.faults input.old) (S.reads input.old))
+        (incoming (S.tells input.new) (S.stream input.new) (S.faults input.new) (S.reads input.new))
+        (outgoing (O.tells out.old) (O.written out.old) (O.faults out.old) (O.sure out.old))
+        (outgoing (O.tells out.new) (O.written out.new) (O.faults out.new) (O.sure out.new)) result }
+    ensures untouched { is_session result ≡ false → (input.new ≡ input.old) × (out.new ≡ out.old) }
+    ensures causes { Causes
+        (incoming (S.tells input.old) (S.stream input.old) (S.faults input.old) (S.reads input.old))
+        (incoming (S.tells input.new) (S.stream input.new) (S.faults input.new) (S.reads input.new))
+        (outgoing (O.tells out.old) (O.written out.old) (O.faults out.old) (O.sure out.old))
+        (outgoing (O.tells out.new) (O.written out.new) (O.faults out.new) (O.sure out.new)) (S.steady input.old) result }
+    ensures room { IsTrue (O.tells out.old) → result ≡ statuses.WriteFault → O.sure out.old + length (O.written out.old) ≤ length (O.written out.new) }
+{
+    let Over { keeper: _, status } = replay_over::<NoKeeper, ListGraph, S, O>(
+        alloc, conf, NoKeeper, tools, input, out,
+    );
+    status
+}
+
+ghost use Rattle.graphjet.specs.Replays.{Causes, StoresAt};
+ghost use Rattle.std.specs.Prelude.{Some};
+
+/// Replays the stream over the window of the store at the path. The keeper comes home, however the replay ended.
+fn replay_stored<P: Keepers, S: Source, O: Sink>(
+    alloc: Global,
+    conf: Conf,
+    path: &str,
+    tools: &mut Tools,
+    input: &mut S,
+    out: &mut O,
+    stores: &mut P,
+) -> RunStatus
+    requires { IsTrue (P.home stores.old) }
+    ensures does { Replays conf (Some path.now) (stores_at (P.stored stores.old) (P.faults stores.old)) (stores_at (P.stored stores.new) (P.faults stores.new))
+        (incoming (S.tells input.old) (S.stream input.old) (S.faults input.old) (S.reads input.old))
+        (incoming (S.tells input.new) (S.stream input.new) (S.faults input.new) (S.reads input.new))
+        (outgoing (O.tells out.old) (O.written out.old) (O.faults out.old) (O.sure out.old))
+        (outgoing (O.tells out.new) (O.written out.new) (O.faults out.new) (O.sure out.new)) result }
+    ensures untouched { is_session result ≡ false → (input.new ≡ input.old) × (out.new ≡ out.old) }
+    ensures home { IsTrue (P.home stores.new) }
+    ensures later { P.faults stores.old ≤ P.faults stores.new }
+    ensures store_cause { result ≡ statuses.StoreFault → Rose (P.faults stores.old) (P.faults stores.new) }
+    ensures causes { Causes
+        (incoming (S.tells input.old) (S.stream input.old) (S.faults input.old) (S.reads input.old))
+        (incoming (S.tells input.new) (S.stream input.new) (S.faults input.new) (S.reads input.new))
+        (outgoing (O.tells out.old) (O.written out.old) (O.faults out.old) (O.sure out.old))
+        (outgoing (O.tells out.new) (O.written out.new) (O.faults out.new) (O.sure out.new)) (S.steady input.old) result }
+    ensures room { IsTrue (O.tells out.old) → result ≡ statuses.WriteFault → O.sure out.old + length (O.written out.old) ≤ length (O.written out.new) }
+{
+    match stores.keeper_at(alloc, path) {
+        Err(KeepError::Failed) => RunStatus::StoreFault,
+        Err(KeepError::Memory) => RunStatus::Memory,
+        Ok(keeper) => {
+            let Over { keeper, status } = replay_over::<P::Kept, ListGraph, S, O>(
+                alloc, conf, keeper, tools, input, out,
+            );
+            stores.take_back(keeper);
+            status
+        }
+    }
+}
+
+/// Replays the stream, over the window of a store where one is named. The memory that it needs beside the asks and replies
+/// is taken before the session.
+pub fn replay<P: Keepers, S: Source, O: Sink>(
+    alloc: Global,
+    conf: Conf,
+    store: Option<&str>,
+    input: &mut S,
+    out: &mut O,
+    stores: &mut P,
+) -> RunStatus
+    requires { IsTrue (P.home stores.old) }
+    ensures does { Replays conf (option_map (λ path. path.now) store.entry) (stores_at (P.stored stores.old) (P.faults stores.old)) (stores_at (P.stored stores.new) (P.faults stores.new))
+        (incoming (S.tells input.old) (S.stream input.old) (S.faults input.old) (S.reads input.old))
+        (incoming (S.tells input.new) (S.stream input.new) (S.faults input.new) (S.reads input.new))
+        (outgoing (O.tells out.old) (O.written out.old) (O.faults out.old) (O.sure out.old))
+        (outgoing (O.tells out.new) (O.written out.new) (O.faults out.new) (O.sure out.new)) result }
+    ensures untouched { is_session result ≡ false → (input.new ≡ input.old) × (out.new ≡ out.old) }
+    ensures home { IsTrue (P.home stores.new) }
+    ensures later { P.faults stores.old ≤ P.faults stores.new }
+    ensures store_cause { result ≡ statuses.StoreFault → Rose (P.faults stores.old) (P.faults stores.new) }
+    ensures elsewhere { store.entry ≡ None → stores.new ≡ stores.old }
+    ensures causes { Causes
+        (incoming (S.tells input.old) (S.stream input.old) (S.faults input.old) (S.reads input.old))
+        (incoming (S.tells input.new) (S.stream input.new) (S.faults input.new) (S.reads input.new))
+        (outgoing (O.tells out.old) (O.written out.old) (O.faults out.old) (O.sure out.old))
+        (outgoing (O.tells out.new) (O.written out.new) (O.faults out.new) (O.sure out.new)) (S.steady input.old) result }
+    ensures room { IsTrue (O.tells out.old) → result ≡ statuses.WriteFault → O.sure out.old + length (O.written out.old) ≤ length (O.written out.new) }
+{
+    let Ok(mut tools) = Tools::new(alloc) else {
+        return RunStatus::Memory;
+    };
+    match store {
+        None => replay_bare(alloc, conf, &mut tools, input, out),
+        Some(path) => replay_stored(alloc, conf, path, &mut tools, input, out, stores),
+    }
+}
