@@ -33,6 +33,11 @@ lack_after (Says (Posted from length)) lack = Accepted
 lack_after (Says _) lack = lack
 lack_after (Stands which) lack = which
 
+-- the same for what is answered to a query
+abbrev pub query_lack : Outcome → Fixed → Fixed
+query_lack (Says reply) lack = lack
+query_lack (Stands which) lack = which
+
 -- the answer is the store's fault
 abbrev pub is_store : Outcome → Bool
 is_store (Says Store) = true

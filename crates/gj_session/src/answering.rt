@@ -18,7 +18,7 @@ pub(crate) trait Answering<C> {
     ghost use Rattle.gj_reply.specs.declared.reply.Reply.{Reply};
     ghost use Rattle.gj_session.specs.declared.outcome.Outcome.{Outcome};
     ghost use Rattle.gj_session.specs.declared.outcome.Outcome.TheVariants.{Stands};
-    ghost use Rattle.gj_session.specs.Outcomes.{IsReply, IsLack, Uncounted, lack_after};
+    ghost use Rattle.gj_session.specs.Outcomes.{IsReply, IsLack, Uncounted, lack_after, query_lack};
 
     // An ask, or a message that asks for nothing, with the fixed reply of want of memory, may be answered so, and what
     // this leaves.
@@ -28,7 +28,7 @@ pub(crate) trait Answering<C> {
     fn query(&mut self, shared: &C, alloc: Global, query: &Query, lack: Fixed) -> Outcome
         requires { IsLack lack }
         ensures exact { answers self.old (Ok (asks.Query query.now)) lack result self.new }
-        ensures lacks { answers self.old (Ok (asks.Query query.now)) lack (Stands lack) self.new };
+        ensures lacks { answers self.old (Ok (asks.Query query.now)) lack (Stands (query_lack result lack)) self.new };
 
     /// Posts a batch.
     fn post(&mut self, shared: &C, items: ItemList) -> Outcome

@@ -3,11 +3,11 @@ ghost use Rattle.std.specs.Prelude.{◌≡◌, is_some, option_map};
 ghost use Rattle.gj_http.specs.Request.{request};
 ghost use Rattle.gj_request.specs.Requests.{asked, has_id, IsAsked};
 ghost use Rattle.gj_session.specs.Heard.{heard, lack_of, route_reply, lack_at, by_body, LacksBy};
-ghost use Rattle.gj_session.specs.Outcomes.{IsLack, Uncounted, lack_after};
+ghost use Rattle.gj_session.specs.Outcomes.{IsLack, Uncounted, lack_after, query_lack};
 
 use crate::answering::Answering;
 use crate::outcome::Outcome;
-use gj_base::{Ask, ItemList, Route};
+use gj_base::{Ask, ItemList, Query, Route};
 use gj_http::{Message, RouteError, Routes};
 use gj_reply::{Fixed, Reply};
 use gj_request::{Refusal, read_request};
@@ -54,6 +54,33 @@ fn lack_for_batch(outcome: &Outcome) -> Fixed
     }
 }
 
+/// The fixed reply that takes the place of what is answered to a query.
+fn lack_for_query(outcome: &Outcome, lack: Fixed) -> Fixed
+    ensures { result ≡ query_lack outcome.now lack }
+{
+    match outcome {
+        Outcome::Says(_) => lack,
+        Outcome::Stands(which) => *which,
+    }
+}
+
+/// Answers a query.
+fn answer_query<C, A: Answering<C>>(
+    answerer: &mut A,
+    shared: &C,
+    alloc: Global,
+    query: &Query,
+    lack: Fixed,
+) -> Answer
+    requires { IsLack lack }
+    ensures answers { A.answers answerer.old (Ok (asks.Query query.now)) lack result.outcome answerer.new }
+    ensures lacks { A.answers answerer.old (Ok (asks.Query query.now)) lack (Outcome.Stands result.lack) answerer.new }
+{
+    let outcome = answerer.query(shared, alloc, query, lack);
+    let lack = lack_for_query(&outcome, lack);
+    Answer { outcome, lack }
+}
+
 /// Posts a batch.
 fn answer_batch<C, A: Answering<C>>(answerer: &mut A, shared: &C, items: ItemList) -> Answer
     requires some { 1 ≤ length items }
@@ -85,10 +112,7 @@ fn answer_ask<C, A: Answering<C>>(
 {
     match ask {
         Ask::Items(items) => answer_batch(answerer, shared, items),
-        Ask::Query(query) => Answer {
-            outcome: answerer.query(shared, alloc, &query, lack),
-            lack,
-        },
+        Ask::Query(query) => answer_query(answerer, shared, alloc, &query, lack),
     }
 }
 
