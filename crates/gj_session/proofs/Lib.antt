@@ -2,6 +2,7 @@ pub mod AnswerLemmas
 pub mod AskLemmas
 pub mod BatchLemmas
 pub mod EndLemmas
+pub mod FinishLemmas
 pub mod GoingLemmas
 pub mod InputLemmas
 pub mod LackLemmas
@@ -9,4 +10,6 @@ pub mod LawLemmas
 pub mod LoopLemmas
 pub mod RecentLemmas
 pub mod RunLemmas
+pub mod SeatLemmas
+pub mod SeatRunLemmas
 pub mod StreamLemmas

@@ -6,5 +6,8 @@ pub mod Loop
 pub mod Outcomes
 pub mod Reference
 pub mod Runs
+pub mod SeatLaws
+pub mod SeatReplies
+pub mod SeatRuns
 pub mod Sessions
 pub mod Streams

@@ -7,19 +7,26 @@
 
 mod accepting;
 mod answering;
+mod done;
+mod hall;
 mod laws;
+mod linked;
 mod message;
 mod outcome;
 mod recent;
 mod replaying;
 mod replying;
 mod sending;
+mod served;
 mod session;
 mod wire;
 
 pub use accepting::accept_on;
+pub use done::Done;
+pub use hall::{AnswerError, accept, answer};
 pub use laws::whole_replies;
 pub use outcome::{End, Outcome};
 pub use replaying::replay_session;
 pub use replying::answer_on;
 pub use sending::send;
+pub use served::serve_session;

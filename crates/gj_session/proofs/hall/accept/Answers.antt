@@ -1,0 +1,23 @@
+use Rattle.std.proofs.Common.{◌≡◌}
+use Rattle.gj_session.proofs.SeatLemmas.{post_answers}
+use Rattle.gj_session.proofs.hall.accept.Goals as goal
+
+pub returns : goal.returns
+returns g c =
+    let x = c.post-posted.ensures in
+    rw c.outcome_to.ensures (post_answers _ _ _ _ _ _ _ _ c.args.items c.post-posted.result (record {
+      ok = x.ok;
+      receipt = x.receipt;
+      began = x.began;
+      posted = x.posted;
+      kept_unseen = x.kept_unseen;
+      err = x.err;
+      full = x.full;
+      room = x.room;
+      no_look = x.no_look;
+      apart = x.apart;
+      front = x.front;
+      numbers = x.numbers;
+      number = x.others.0;
+      low = rw c.length-length.ensures.exact at c.length-length.ensures.in_range;
+    }))
