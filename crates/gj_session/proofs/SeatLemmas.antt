@@ -1,5 +1,5 @@
 -- What a post by a seat is answered.
-use Rattle.std.proofs.Common.{◌≡◌, ◌≢◌, ◌⊎◌, inl, inr, ℕ, ◌+◌, ◌-◌, ◌^◌, ◌<◌, ◌≤◌, ◌==◌, ◌∙◌, min, Bool, true, false, List, [], ◌∷◌, ◌++◌, length, count_by, cond, Result, Ok, Err, IfOk, IfErr, OnOk, IsErrOf, if◌then◌else◌, refl, ap, sym, subst, arith}
+use Rattle.std.proofs.Common.{◌≡◌, ◌≢◌, ◌⊎◌, inl, inr, ℕ, ◌+◌, ◌-◌, ◌^◌, ◌<◌, ◌≤◌, ◌==◌, ◌∙◌, min, Bool, true, false, List, [], ◌∷◌, ◌++◌, length, count_by, cond, Result, Ok, Err, IfOk, IfErr, OnOk, IsErrOf, if◌then◌else◌, refl, ap, sym, subst, arith, append-nil}
 use Rattle.std.proofs.lemmas.Bool.{cases_lt}
 use Rattle.std.proofs.lemmas.List.Sums.{count_by-le-length}
 use Rattle.gj_base.specs.Causes.{RoseBy}
@@ -26,7 +26,7 @@ use Rattle.gj_session.specs.AnsweringLaws.{Uncounts, uncounts_reply, uncounts_la
 use Rattle.gj_session.specs.IndexRuns.{one_if}
 use Rattle.gj_session.specs.Outcomes.{IsLack, IsReply, is_store, is_full, is_apart, is_no_look}
 use Rattle.gj_session.specs.Reference.{reply_of}
-use Rattle.gj_session.specs.SeatReplies.{outcome_of}
+use Rattle.gj_session.specs.SeatReplies.{entered_items, outcome_of}
 use Rattle.gj_session.specs.SeatRuns.{is_look, CountedOne, SameSeat, SeatAnswers}
 use Rattle.gj_session.specs.declared.outcome.Outcome.{Outcome}
 use Rattle.gj_session.specs.declared.outcome.Outcome.TheVariants.{Says, Stands}
@@ -237,3 +237,17 @@ query_refused conf a b query lack number posted later same numbers =
       counts = subst (λ (m : Numbers). CountedOne n m (Ok (asks.Query query)) (Stands fixed.NoLook)) (sym numbers)
           (record { looks = rose_stays n.looks; refused = rose_once n.refused; store = rose_stays n.store; full = rose_stays n.full; apart = rose_stays n.apart });
     }
+
+none_enter : (h : History) (number : ℕ) → h ≡ extend h (entries_by number [])
+none_enter h number = λ i. record { first = h.first; entries = sym (append-nil h.entries) i }
+
+-- and what it did to the history
+pub post_enters : (S : Type 0) (p q h new : History) (a b : SeatView) (items : List Item) (result : Result Receipt PostError) → PostSays S p q h new a b items result
+    → new ≡ extend h (entries_by a.number (entered_items items (outcome_of result)))
+post_enters S p q h new a b items (Ok r) x = x.ok.0
+post_enters S p q h new a b items (Err (posts.KeptUnseen r)) x = (x.kept_unseen r refl).2
+post_enters S p q h new a b items (Err posts.Memory) x = (x.err (λ r e. cc)).0 ∙ none_enter h a.number
+post_enters S p q h new a b items (Err posts.Store) x = (x.err (λ r e. cc)).0 ∙ none_enter h a.number
+post_enters S p q h new a b items (Err (posts.Full n)) x = (x.err (λ r e. cc)).0 ∙ none_enter h a.number
+post_enters S p q h new a b items (Err (posts.NoLook why)) x = (x.err (λ r e. cc)).0 ∙ none_enter h a.number
+post_enters S p q h new a b items (Err (posts.Apart seen shown posted counted)) x = (x.err (λ r e. cc)).0 ∙ none_enter h a.number

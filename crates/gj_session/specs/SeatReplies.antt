@@ -1,5 +1,6 @@
 -- What a seat answers: to a query by one look, and to a batch by one post.
-use Rattle.std.specs.Prelude.{Result, Ok, Err}
+use Rattle.std.specs.Prelude.{List, [], Result, Ok, Err}
+use Rattle.gj_base.specs.declared.item.Item.{Item}
 use Rattle.gj_base.specs.declared.item.Receipt.{Receipt}
 use Rattle.gj_publish.specs.Seats.{Numbers, looked, not_looked}
 use Rattle.gj_publish.specs.declared.refusal.PostError.{PostError}
@@ -31,3 +32,9 @@ outcome_of_refusal (posts.Apart seen shown posted counted) = Says (replies.Apart
 abbrev pub outcome_of : Result Receipt PostError → Outcome
 outcome_of (Ok receipt) = Says (replies.Posted receipt.from receipt.to)
 outcome_of (Err why) = outcome_of_refusal why
+
+-- the items that have entered where this is answered to them
+abbrev pub entered_items : List Item → Outcome → List Item
+entered_items items (Says (replies.Posted from length)) = items
+entered_items items (Stands fixed.Accepted) = items
+entered_items items _ = []

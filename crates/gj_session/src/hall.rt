@@ -1,11 +1,11 @@
 //! A seat beside others, as what answers the messages of a session.
 ghost use Rattle.std.specs.Prelude.{◌≡◌, ◌≢◌, ◌+◌, ◌<◌, ◌≤◌, length, IfOk, OnErr, IsErrOf, Ok};
-ghost use Rattle.gj_base.specs.History.{Begins};
+ghost use Rattle.gj_base.specs.History.{Begins, entries_by, extend};
 ghost use Rattle.gj_base.specs.declared.ask.Ask.TheVariants as asks;
 ghost use Rattle.gj_session.specs.Answers.{window_under};
 ghost use Rattle.gj_session.specs.Outcomes.{IsLack};
 ghost use Rattle.gj_session.specs.Reference.{reply_of};
-ghost use Rattle.gj_session.specs.SeatReplies.{after_answer, outcome_of, outcome_of_refusal};
+ghost use Rattle.gj_session.specs.SeatReplies.{after_answer, entered_items, outcome_of, outcome_of_refusal};
 ghost use Rattle.gj_session.specs.SeatRuns.{SeatAnswers};
 
 use crate::answering::Answering;
@@ -113,7 +113,9 @@ pub fn accept<J: Opening, C: Copies<Operation = Batch<J>>, K: Keeper + Drop, W: 
 ) -> Outcome
     requires some { 1 ≤ length items }
     requires few { length items ≤ 4096 }
-    ensures { SeatAnswers J.conf seat.old seat.new (Ok (asks.Items items)) Fixed.NotAccepted result }
+    ensures answers { SeatAnswers J.conf seat.old seat.new (Ok (asks.Items items)) Fixed.NotAccepted result }
+    ensures history { writer.new.accepted ≡ extend writer.old.accepted (entries_by seat.old.number (entered_items items result)) }
+    ensures later { writer.old.faults ≤ writer.new.faults }
 {
     let _length = writer.length();
     let posted = writer.post(seat, items);

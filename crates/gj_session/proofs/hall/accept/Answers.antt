@@ -1,11 +1,11 @@
 use Rattle.std.proofs.Common.{◌≡◌}
-use Rattle.gj_session.proofs.SeatLemmas.{post_answers}
+use Rattle.gj_session.proofs.SeatLemmas.{PostSays, post_answers, post_enters}
 use Rattle.gj_session.proofs.hall.accept.Goals as goal
 
 pub returns : goal.returns
 returns g c =
     let x = c.post-posted.ensures in
-    rw c.outcome_to.ensures (post_answers _ _ _ _ _ _ _ _ c.args.items c.post-posted.result (record {
+    let says : PostSays (c.post-posted.new.self ≡ c.args.writer.now) _ _ _ _ _ _ c.args.items c.post-posted.result = record {
       ok = x.ok;
       receipt = x.receipt;
       began = x.began;
@@ -20,4 +20,9 @@ returns g c =
       numbers = x.numbers;
       number = x.others.0;
       low = rw c.length-length.ensures.exact at c.length-length.ensures.in_range;
-    }))
+    } in
+    rw (c.outcome_to.ensures, c.compact_filled.ensures) (record {
+      answers = post_answers _ _ _ _ _ _ _ _ c.args.items c.post-posted.result says;
+      history = post_enters _ _ _ _ _ _ _ c.args.items c.post-posted.result says;
+      later = x.later;
+    })
