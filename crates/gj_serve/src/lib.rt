@@ -1,0 +1,20 @@
+//!
+//! Contracts see a door as the numbers of links that it handed out, of links that it got back, and of its answers that it
+#![tactic(auto)]
+
+mod door;
+mod door_book;
+mod ends;
+mod gathered;
+mod memory_door;
+mod naming;
+mod opening;
+mod pass;
+
+pub use door::Door;
+pub use door_book::DoorBook;
+pub use ends::{DoorEnd, Served, Taken};
+pub use memory_door::MemoryDoor;
+pub use naming::Stating;
+pub use opening::{NoDoor, Tickets, open_door};
+pub use pass::Pass;
