@@ -5,3 +5,4 @@ pub mod LaneLemmas
 pub mod NoteLemmas
 pub mod OpenLemmas
 pub mod TurnLemmas
+pub mod SumLemmas

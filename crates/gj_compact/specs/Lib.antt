@@ -2,4 +2,5 @@ pub mod Blocks
 pub mod Cells
 pub mod Compact
 pub mod Lanes
+pub mod Sums
 pub mod Turns

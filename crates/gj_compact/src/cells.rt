@@ -3,29 +3,35 @@ ghost use Rattle.std.specs.Prelude.{◌≡◌, ◌+◌, ◌-◌, ◌<◌, ◌≤
 ghost use Rattle.gj_compact.specs.Blocks.{lets_through, moments_between, AreBounds};
 ghost use Rattle.gj_compact.specs.Cells.{no_end};
 
+use crate::counts::Counts;
 use crate::edge::End;
+use crate::sums::{NONE, before, block_at, sum_blocks};
 use gj_base::{Kind, Mask, Memory};
 use std::alloc::Global;
 use std::marker::Model;
 
-/// A list of ends of fixed length: their vertices, their kinds and their moments.
+/// A list of ends of fixed length: their vertices, their kinds and their moments. Once it is sealed, and until it changes,
+/// the kinds before each block are counted.
 #[derive(Drop)]
 pub struct Cells {
     vertices: Vec<u32>,
     kinds: Vec<Kind>,
     moments: Vec<u64>,
+    sums: Vec<Counts>,
+    sealed: bool,
 }
 
 impl Model for Cells {
-    ghost use Rattle.std.specs.Prelude.{◌≡◌, List, length};
+    ghost use Rattle.std.specs.Prelude.{◌≡◌, List, IsTrue, length};
     ghost use Rattle.gj_compact.specs.declared.edge.End.{End};
     ghost use Rattle.gj_compact.specs.Cells.{joined};
+    ghost use Rattle.gj_compact.specs.Sums.{AreSums, IsRoom};
 
     ghost Value = { List End };
 
     ghost view = { λ c. joined c.vertices.items c.kinds.items c.moments.items };
 
-    ghost invariant = { λ c. (length c.kinds.items ≡ length c.vertices.items) × (length c.moments.items ≡ length c.vertices.items) };
+    ghost invariant = { λ c. (length c.kinds.items ≡ length c.vertices.items) × (length c.moments.items ≡ length c.vertices.items) × IsRoom c.sums.items c.kinds.items × (IsTrue c.sealed → AreSums c.sums.items c.kinds.items) };
 }
 
 /// Copies `len` values of one column into another.
@@ -41,6 +47,7 @@ fn copy_part<T: Copy>(back: &mut [T], to: usize, cells: &[T], from: usize, len: 
 impl Cells {
     /// That many cells. It takes all memory that they will use.
     pub fn new(alloc: Global, room: u32) -> Result<Cells, Memory>
+        requires { room ≤ 8388608 }
         ensures { IfOk result (λ cells. cells ≡ replicate room no_end) }
     {
         let Ok(vertices) = vec![in alloc; 0; room as usize] else {
@@ -52,10 +59,15 @@ impl Cells {
         let Ok(moments) = vec![in alloc; 0; room as usize] else {
             return Err(Memory);
         };
+        let Ok(sums) = vec![in alloc; NONE; room as usize / 64 + 1] else {
+            return Err(Memory);
+        };
         Ok(Cells {
             vertices,
             kinds,
             moments,
+            sums,
+            sealed: false,
         })
     }
 
@@ -89,8 +101,52 @@ impl Cells {
         self.vertices[i]
     }
 
-    /// How many of the ends from one place up to another the mask lets through.
+    /// Counts the kinds before each block. It takes time in the number of cells.
+    pub fn seal(&mut self)
+        ensures { self.new ≡ self.old }
+    {
+        sum_blocks(&mut self.sums, &self.kinds);
+        self.sealed = true;
+    }
+
+    /// How many of the ends from one place up to another the mask lets through: by blocks, where the cells are sealed and
+    /// the mask asks for no moment.
     pub fn count(&self, from: usize, to: usize, mask: Mask) -> usize
+        requires order { from ≤ to }
+        requires inside { to ≤ length self.now }
+        ensures exact { result ≡ count_by (lets_through mask) (take (to - from) (drop from self.now)) }
+        ensures in_range { result ≤ to - from }
+    {
+        if self.sealed {
+            if mask.not_before() == 0 {
+                return before(&self.sums, &self.kinds, to, mask)
+                    - before(&self.sums, &self.kinds, from, mask);
+            }
+        }
+        self.scan_count(from, to, mask)
+    }
+
+    /// One of the ends from one place up to another that the mask lets through, by its index among them: from a block on
+    /// that is found by its counts, where the cells are sealed and the mask asks for no moment.
+    pub fn nth(&self, from: usize, to: usize, mask: Mask, i: usize) -> End
+        requires order { from ≤ to }
+        requires inside { to ≤ length self.now }
+        requires index { i < count_by (lets_through mask) (take (to - from) (drop from self.now)) }
+        ensures { slice_get (filter (lets_through mask) (take (to - from) (drop from self.now))) i ≡ Some result }
+    {
+        if self.sealed {
+            if mask.not_before() == 0 {
+                let goal = before(&self.sums, &self.kinds, from, mask) + i;
+                let block = block_at(&self.sums, mask, from / 64, to / 64, goal);
+                let left = goal - self.sums[block].of(mask);
+                return self.scan_nth(64 * block, to, mask, left);
+            }
+        }
+        self.scan_nth(from, to, mask, i)
+    }
+
+    /// How many of the ends the mask lets through, looked at one by one.
+    fn scan_count(&self, from: usize, to: usize, mask: Mask) -> usize
         requires order { from ≤ to }
         requires inside { to ≤ length self.now }
         ensures exact { result ≡ count_by (lets_through mask) (take (to - from) (drop from self.now)) }
@@ -106,8 +162,8 @@ impl Cells {
         count
     }
 
-    /// One of the ends from one place up to another that the mask lets through, by its index among them.
-    pub fn nth(&self, from: usize, to: usize, mask: Mask, i: usize) -> End
+    /// One of the ends that the mask lets through, looked at one by one.
+    fn scan_nth(&self, from: usize, to: usize, mask: Mask, i: usize) -> End
         requires order { from ≤ to }
         requires inside { to ≤ length self.now }
         requires index { i < count_by (lets_through mask) (take (to - from) (drop from self.now)) }
@@ -151,6 +207,7 @@ impl Cells {
         self.vertices[i] = end.vertex;
         self.kinds[i] = end.kind;
         self.moments[i] = end.at;
+        self.sealed = false;
     }
 
     /// Copies `len` ends of other cells to the place `to`.
@@ -164,5 +221,6 @@ impl Cells {
         copy_part(&mut self.vertices, to, &cells.vertices, from, len);
         copy_part(&mut self.kinds, to, &cells.kinds, from, len);
         copy_part(&mut self.moments, to, &cells.moments, from, len);
+        self.sealed = false;
     }
 }

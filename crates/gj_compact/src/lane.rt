@@ -206,6 +206,14 @@ impl Lane {
         };
     }
 
+    /// Counts the kinds before each block of cells, which `count` and `nth` use until the next `push` or `open`. It takes
+    /// time in the number of all ends.
+    pub fn seal(&mut self)
+        ensures { self.new ≡ self.old }
+    {
+        self.cells.seal();
+    }
+
     /// Forgets all ends and notes. It takes time in the number of vertices.
     pub fn clear(&mut self)
         ensures { self.new ≡ emptied self.old }

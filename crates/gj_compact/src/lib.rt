@@ -6,9 +6,11 @@
 
 mod cells;
 mod compact_segment;
+mod counts;
 mod edge;
 mod lane;
 mod part;
+mod sums;
 #[cfg(test)]
 mod tests;
 mod turns;

@@ -64,5 +64,6 @@ impl Part {
         note_all(&mut self.lane, side, edges);
         self.lane.open();
         fill(&mut self.lane, side, edges);
+        self.lane.seal();
     }
 }

@@ -1,5 +1,5 @@
 -- What trims and batches make of a book.
-use Rattle.std.proofs.Common.{◌≡◌, ℕ, ◌+◌, ◌-◌, ◌^◌, ◌≤◌, ◌++◌, List, length, drop, filter, nat_le, refl, sym, ap, ◌∙◌, subst, arith, length-append}
+use Rattle.std.proofs.Common.{◌≡◌, ℕ, ◌+◌, ◌-◌, ◌^◌, ◌≤◌, ◌++◌, List, length, drop, filter, nat_le, sym, ap, ◌∙◌, subst, arith, length-append}
 use Rattle.std.specs.Bool.{IsTrue}
 use Rattle.std.proofs.lemmas.List.{length-map}
 use Rattle.gj_base.specs.declared.item.Item.{Item}
@@ -10,7 +10,7 @@ use Rattle.gj_base.specs.History.{base, extend, entries_by, length_of}
 use Rattle.gj_base.specs.Kept.{Kept, with_rows, placed, next_place}
 use Rattle.gj_keep.specs.Rows.{first_place}
 use Rattle.gj_keep.specs.Books.{BookKeeps, IsStore, KeepsFrom, trimmed}
-use Rattle.gj_keep.proofs.RowLemmas.{InRange, filter_all, filter_follow}
+use Rattle.gj_keep.proofs.RowLemmas.{InRange, filter_all}
 use Rattle.gj_keep.proofs.StoreLemmas.{IsTrimmed, trimmed_is, IsLonger, longer_is, good_of, sound_of, Sound}
 use Rattle.gj_keep.proofs.HistoryLemmas.{keeps_trimmed, keeps_longer}
 

@@ -1,14 +1,14 @@
 -- Of which histories a store's rows are.
-use Rattle.std.proofs.Common.{◌≡◌, ℕ, zero, suc, ◌+◌, ◌-◌, ◌*◌, ◌/◌, ◌%◌, ◌≤◌, ◌<◌, max, true, List, [], ◌∷◌, ◌++◌, length, map, take, drop, get_or, refl, sym, ap, ◌∙◌, subst, le_refl, arith, length-append, length-drop, length-take}
-use Rattle.std.proofs.lemmas.List.{drop-drop, drop-append-le, map-append, length-map, drop_all}
+use Rattle.std.proofs.Common.{◌≡◌, ℕ, zero, suc, ◌+◌, ◌-◌, ◌%◌, ◌≤◌, ◌<◌, max, true, List, [], ◌∷◌, ◌++◌, length, map, take, drop, get_or, refl, sym, ap, ◌∙◌, subst, le_refl, arith, length-append, length-drop, length-take}
+use Rattle.std.proofs.lemmas.List.{drop-drop, drop-append-le, map-append, length-map}
 use Rattle.gj_base.specs.declared.item.Item.{Item}
 use Rattle.gj_base.specs.declared.item.Entry.{Entry}
 use Rattle.gj_base.specs.declared.keeper.KeptItem.{KeptItem}
 use Rattle.gj_base.specs.declared.history.History.{History}
 use Rattle.gj_base.specs.declared.history.Shown.{Shown}
-use Rattle.gj_base.specs.Configuration.{Configuration, IsConfiguration}
+use Rattle.gj_base.specs.Configuration.{Configuration}
 use Rattle.gj_base.specs.History.{base, items_of, length_of, extend, entries_by, windowed, window, more, conf_of, empty_shown, StandsFor}
-use Rattle.gj_base.specs.Kept.{placed, row_of, next_place}
+use Rattle.gj_base.specs.Kept.{placed, row_of}
 use Rattle.gj_base.proofs.Windows.{base_mono, base_aligned, base_le, items_back, more_conf, take_one_more}
 use Rattle.gj_keep.specs.Rows.{first_place, item_of, opened, good}
 use Rattle.gj_keep.specs.Books.{KeepsFrom}

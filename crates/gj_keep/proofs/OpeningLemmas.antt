@@ -1,21 +1,20 @@
 -- What an opening makes of a store, and what it finds there.
-use Rattle.std.proofs.Common.{◌≡◌, ◌⊎◌, ℕ, ◌+◌, ◌≤◌, ◌==◌, ◌&&◌, ◌||◌, Bool, true, false, List, [], ◌∷◌, length, Option, Some, None, refl, sym, ap, ◌∙◌, subst, inl, inr, arith, if◌then◌else◌}
+use Rattle.std.proofs.Common.{◌≡◌, ℕ, ◌+◌, ◌≤◌, ◌==◌, ◌&&◌, ◌||◌, Bool, true, false, List, length, Option, Some, None, refl, sym, ap, ◌∙◌, subst, inl, inr, if◌then◌else◌}
 use Rattle.std.specs.Option.{is_none}
 use Rattle.std.specs.Bool.{IsTrue}
-use Rattle.std.proofs.lemmas.Bool.{and_parts, and_from, or_cases, eqb-true, eq-eqb, cases_Bool, both_ways}
+use Rattle.std.proofs.lemmas.Bool.{and_parts, and_from, or_cases, eqb-true, eq-eqb, both_ways}
 use Rattle.gj_base.specs.declared.keeper.KeptConf.{KeptConf}
 use Rattle.gj_base.specs.declared.keeper.KeptItem.{KeptItem}
 use Rattle.gj_base.specs.declared.history.History.{History}
 use Rattle.gj_base.specs.declared.history.Shown.{Shown}
-use Rattle.gj_base.specs.Causes.{Rose, one_more}
-use Rattle.gj_base.specs.Configuration.{Configuration, IsConfiguration}
-use Rattle.gj_base.specs.History.{length_of, StandsFor}
+use Rattle.gj_base.specs.Configuration.{Configuration}
+use Rattle.gj_base.specs.History.{StandsFor}
 use Rattle.gj_base.specs.Kept.{Kept, next_place, rows_under}
 use Rattle.gj_keep.specs.declared.opening.OpenError.{OpenError}
-use Rattle.gj_keep.specs.declared.opening.OpenError.TheVariants.{Memory, Store, ConfDiffers, KeptRow, Place}
+use Rattle.gj_keep.specs.declared.opening.OpenError.TheVariants.{ConfDiffers, KeptRow, Place}
 use Rattle.gj_keep.specs.Rows.{first_bad, first_place, good, opened}
 use Rattle.gj_keep.specs.Books.{BookKeeps, Holds, IsStore, Keeps, KeepsFrom, asked, suits, told_rows}
-use Rattle.gj_keep.specs.Openings.{IsLeft, IsPrepared, MayRefuse, Shows, due, faults_at, prepared, row_refusal, conf_refusal}
+use Rattle.gj_keep.specs.Openings.{IsLeft, IsPrepared, MayRefuse, Shows, due, prepared, row_refusal, conf_refusal}
 use Rattle.gj_keep.proofs.StoreLemmas.{sound_of, sound_next}
 use Rattle.gj_keep.proofs.HistoryLemmas.{keeps_first, keeps_opened, length_kept, opened_length, stands_again, window_opened}
 

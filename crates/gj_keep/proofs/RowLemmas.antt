@@ -1,5 +1,5 @@
 -- Rows at places that follow each other.
-use Rattle.std.proofs.Common.{◌≡◌, ℕ, zero, suc, ◌+◌, ◌-◌, ◌^◌, ◌≤◌, ◌<◌, ◌==◌, ◌&&◌, Bool, true, false, nat_le, nat_lt, List, [], ◌∷◌, ◌++◌, length, map, drop, filter, get_or, Option, Some, None, refl, sym, ap, ◌∙◌, subst, arith}
+use Rattle.std.proofs.Common.{◌≡◌, ℕ, zero, suc, ◌+◌, ◌-◌, ◌^◌, ◌≤◌, ◌<◌, ◌==◌, ◌&&◌, Bool, true, false, nat_le, nat_lt, List, [], ◌∷◌, ◌++◌, length, map, drop, filter, get_or, Some, None, refl, sym, ap, ◌∙◌, subst, arith}
 use Rattle.std.specs.Bool.{IsTrue}
 use Rattle.std.proofs.lemmas.Bool.{and_parts, and_from, eqb-true, eq-eqb, le-leb, lt-leb, ltb-true, lt-ltb}
 use Rattle.gj_base.specs.declared.item.Item.{Item}
@@ -8,7 +8,7 @@ use Rattle.gj_base.specs.declared.kind.Kind.TheVariants.{Click, Favorite, Retwee
 use Rattle.gj_base.specs.declared.keeper.KeptItem.{KeptItem}
 use Rattle.gj_base.specs.Kinds.{kind_number}
 use Rattle.gj_base.specs.Kept.{placed, row_of, next_place}
-use Rattle.gj_keep.specs.Rows.{is_in_range, first_apart, first_place, item_of, kind_of}
+use Rattle.gj_keep.specs.Rows.{is_in_range, first_apart, item_of, kind_of}
 
 -- each row is in range, and they stand at the places from place on
 abbrev pub Follow : ℕ → List KeptItem → Type 0

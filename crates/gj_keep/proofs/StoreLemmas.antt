@@ -1,18 +1,15 @@
 -- Good rows, and what trims and batches make of them.
-use Rattle.std.proofs.Common.{◌≡◌, ◌⊎◌, ℕ, zero, suc, ◌+◌, ◌-◌, ◌*◌, ◌/◌, ◌%◌, ◌^◌, ◌≤◌, ◌<◌, ◌==◌, ◌&&◌, Bool, true, false, nat_le, List, [], ◌∷◌, ◌++◌, length, drop, filter, Option, Some, None, refl, sym, ap, ◌∙◌, subst, le_trans, le_refl, arith, length-append, length-drop, mul-le-mul_left}
+use Rattle.std.proofs.Common.{◌≡◌, ℕ, zero, suc, ◌+◌, ◌-◌, ◌*◌, ◌/◌, ◌%◌, ◌^◌, ◌≤◌, ◌<◌, ◌==◌, Bool, true, false, nat_le, List, [], ◌∷◌, ◌++◌, length, drop, filter, Option, Some, None, refl, sym, ap, ◌∙◌, subst, le_trans, arith, length-append, length-drop, mul-le-mul_left}
 use Rattle.std.specs.Option.{is_none}
-use Rattle.std.specs.Bool.{IsTrue}
 use Rattle.std.proofs.lemmas.Bool.{and_parts, and_from, eqb-true, eq-eqb, leb-true, le-leb}
-use Rattle.std.proofs.lemmas.List.{append-nil}
 use Rattle.std.proofs.Math.Nat.{mul-div-le, zero-mod}
 use Rattle.gj_base.specs.declared.item.Item.{Item}
 use Rattle.gj_base.specs.declared.keeper.KeptItem.{KeptItem}
 use Rattle.gj_base.specs.Configuration.{Configuration, IsConfiguration}
 use Rattle.gj_base.specs.History.{base}
-use Rattle.gj_base.specs.Kept.{placed, row_of, next_place}
+use Rattle.gj_base.specs.Kept.{placed, next_place}
 use Rattle.gj_base.proofs.Windows.{base_mono, base_aligned, base_le}
-use Rattle.gj_keep.specs.Rows.{first_apart, may_begin, first_bad, good, first_place}
-use Rattle.gj_keep.specs.Books.{trimmed}
+use Rattle.gj_keep.specs.Rows.{first_apart, may_begin, good, first_place}
 use Rattle.gj_keep.proofs.RowLemmas.{Follow, follow_of, apart_none, follow_drop, follow_append, filter_follow, follow_end, next_follow, InRange, follow_placed, placed_length}
 
 -- what good rows are

@@ -1,10 +1,10 @@
 -- What the keepers in memory know of their one keeper.
-use Rattle.std.specs.Prelude.{ℕ, Bool}
-use Rattle.std.specs.Option.{is_some}
-use Rattle.gj_base.specs.CallNumbers.{CallLog}
+use Rattle.std.specs.Prelude.{ℕ, Bool, IsTrue}
+use Rattle.std.specs.Option.{is_some, ForSome}
+use Rattle.gj_base.specs.CallNumbers.{CallLog, is_steady}
 use Rattle.gj_base.specs.Kept.{Kept}
 use Rattle.gj_keep.specs.declared.memory_keepers.MemoryKeepers.{MemoryKeepers}
-use Rattle.gj_keep.specs.MemoryStores.{kept_by}
+use Rattle.gj_keep.specs.MemoryStores.{kept_by, IsSteady}
 
 -- what the keeper kept as it was last at home
 abbrev pub stored_by : MemoryKeepers → Kept
@@ -24,3 +24,7 @@ faults_known s = s.faults
 -- its calls that can fail, by number
 abbrev pub calls_on : MemoryKeepers → CallLog
 calls_on s = s.calls
+
+-- no call that is still to come fails, on it and on its keeper where that is at home
+abbrev pub AreSteady : MemoryKeepers → Type 0
+AreSteady s = IsTrue (is_steady s.calls) × ForSome s.kept IsSteady

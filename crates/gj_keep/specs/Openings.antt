@@ -1,5 +1,5 @@
 -- What an opening makes of a store, and which refusal is due.
-use Rattle.std.specs.Prelude.{◌≡◌, ◌⊎◌, ℕ, Bool, IsTrue, Option, Some, None, is_none, if◌then◌else◌}
+use Rattle.std.specs.Prelude.{◌≡◌, ◌⊎◌, ℕ, IsTrue, Option, Some, None, is_none, if◌then◌else◌}
 use Rattle.gj_base.specs.declared.keeper.KeptConf.{KeptConf}
 use Rattle.gj_base.specs.declared.history.History.{History}
 use Rattle.gj_base.specs.Causes.{one_more}

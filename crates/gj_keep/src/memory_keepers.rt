@@ -22,9 +22,9 @@ pub struct MemoryKeepers {
 }
 
 impl MemoryKeepers {
-    ghost use Rattle.std.specs.Prelude.{IsTrue};
-    ghost use Rattle.gj_keep.specs.MemoryStores.{kept_by, faults_by};
-    ghost use Rattle.gj_keep.specs.MemoryHomes.{stored_by, is_home, own_faults, faults_known, calls_on};
+    ghost use Rattle.std.specs.Prelude.{IsTrue, []};
+    ghost use Rattle.gj_keep.specs.MemoryStores.{kept_by, faults_by, IsSteady};
+    ghost use Rattle.gj_keep.specs.MemoryHomes.{stored_by, is_home, own_faults, faults_known, calls_on, AreSteady};
 
     /// The keeper is at home. It takes no memory.
     pub fn new(kept: MemoryKeeper, fails: Vec<u64>) -> Self
@@ -33,6 +33,7 @@ impl MemoryKeepers {
         ensures own { own_faults result ≡ 0 }
         ensures faults { faults_known result ≡ faults_by kept }
         ensures calls { calls_on result ≡ record { made = 0; fails = fails.items; faults = 0 } }
+        ensures steady { fails.items ≡ [] → IsSteady kept → AreSteady result }
     {
         let last = Snapshot::of(&kept);
         let faults = kept.faults;
@@ -50,11 +51,11 @@ impl Keepers for MemoryKeepers {
     type Kept = MemoryKeeper;
 
     ghost use Rattle.std.specs.Prelude.{◌≡◌, ◌≤◌, ◌+◌, ◌↔◌, true, false, IfOk, OnErr, IsErr, IsErrOf, IsTrue};
-    ghost use Rattle.gj_base.specs.declared.keeper.KeepError.TheVariants.{Memory};
+    ghost use Rattle.gj_base.specs.declared.keeper.KeepError.TheVariants.{Failed, Memory};
     ghost use Rattle.gj_base.specs.Causes.{faults_after};
     ghost use Rattle.gj_base.specs.CallNumbers.{counted, fails_next};
-    ghost use Rattle.gj_keep.specs.MemoryStores.{kept_by, faults_by};
-    ghost use Rattle.gj_keep.specs.MemoryHomes.{stored_by, is_home, own_faults, faults_known, calls_on};
+    ghost use Rattle.gj_keep.specs.MemoryStores.{kept_by, faults_by, IsSteady};
+    ghost use Rattle.gj_keep.specs.MemoryHomes.{stored_by, is_home, own_faults, faults_known, calls_on, AreSteady};
 
     ghost stored = { stored_by };
 
@@ -64,8 +65,7 @@ impl Keepers for MemoryKeepers {
 
     ghost faults = { faults_known };
 
-    // The keeper that comes back may be any, so none is said to fail no call.
-    ghost steady = { λ _. ⊥ };
+    ghost steady = { AreSteady };
 
     fn keeper_at(&mut self, _alloc: Global, _path: &str) -> Result<MemoryKeeper, KeepError>
         requires { IsTrue (is_home self.old) }
@@ -80,6 +80,7 @@ impl Keepers for MemoryKeepers {
         ensures own { own_faults self.new ≡ faults_after (own_faults self.old) result }
         ensures count { faults_known self.new ≡ faults_after (faults_known self.old) result }
         ensures later { faults_known self.old ≤ faults_known self.new }
+        ensures steady { AreSteady self.old → (IsErrOf result Failed → ⊥) × AreSteady self.new × IfOk result IsSteady }
     {
         if let Err(_) = self.calls.count() {
             self.own = self.own.saturating_add(1);

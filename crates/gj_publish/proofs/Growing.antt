@@ -6,7 +6,6 @@ use Rattle.gj_base.specs.declared.item.Item.{Item}
 use Rattle.gj_base.specs.declared.history.History.{History}
 use Rattle.gj_base.specs.Configuration.{Configuration}
 use Rattle.gj_base.specs.History.{Begins, entries_by, extend, length_of}
-use Rattle.std.specs.Bool.{IsTrue}
 use Rattle.gj_keep.specs.Books.{BookView, BookKeeps, KeepsFrom}
 use Rattle.gj_keep.specs.Rows.{opened, item_of}
 use Rattle.gj_base.specs.declared.keeper.KeptItem.{KeptItem}

@@ -8,7 +8,7 @@ use super::*;
 use gj_base::{Conf, Graph, Item, ItemList, Kind, List, ListGraph, Mask, Receipt, Side};
 use gj_keep::{MemoryKeeper, NoKeeper, OpenRefused};
 use gj_log::{Naming, Opening};
-use gj_publish::{GraphWriter, Grants, NoLook, PostError, Seat, open_index};
+use gj_publish::{Grants, GraphWriter, NoLook, PostError, Seat, open_index};
 use std::alloc::Global;
 use std::marker::Brand;
 use std::process::Abort;

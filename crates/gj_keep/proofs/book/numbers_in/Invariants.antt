@@ -1,4 +1,4 @@
-use Rattle.std.proofs.Common.{◌<◌, ◌^◌, ℕ, length, get_or}
+use Rattle.std.proofs.Common.{◌<◌, ◌^◌, ℕ, get_or}
 use Rattle.gj_base.specs.declared.item.Item.{Item}
 use Rattle.gj_keep.proofs.book.numbers_in.Given as goal
 

@@ -1,4 +1,4 @@
-use Rattle.std.proofs.Common.{◌≡◌, ◌%◌, ◌*◌, ◌-◌, ◌<◌, ◌≤◌, ◌∙◌, ap, sym, arith}
+use Rattle.std.proofs.Common.{◌≡◌, ◌%◌, ◌*◌, ◌<◌, ◌∙◌, ap, sym, arith}
 use Rattle.gj_keep.proofs.BeginLemmas.{begins_is}
 use Rattle.gj_keep.proofs.reading.begins.Goals as goal
 

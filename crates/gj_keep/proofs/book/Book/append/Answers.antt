@@ -1,4 +1,4 @@
-use Rattle.std.proofs.Common.{sym, ap, ◌∙◌, subst, arith}
+use Rattle.std.proofs.Common.{sym, ap, subst, arith}
 use Rattle.std.specs.Bool.{IsTrue}
 use Rattle.gj_keep.specs.Books.{BookKeeps}
 use Rattle.gj_keep.proofs.BookLemmas.{keeps_append, store_longer}

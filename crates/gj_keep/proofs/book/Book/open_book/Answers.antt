@@ -1,7 +1,6 @@
 use Rattle.std.proofs.Common.{◌≡◌, ℕ, ◌+◌, ◌∙◌, List, length, ap, sym, subst, get_or, arith}
 use Rattle.std.specs.Bool.{IsTrue}
 use Rattle.gj_base.specs.declared.keeper.KeptItem.{KeptItem}
-use Rattle.gj_base.specs.declared.history.History.{History}
 use Rattle.gj_keep.specs.Rows.{first_place, opened}
 use Rattle.gj_keep.specs.Books.{BookKeeps, IsStore}
 use Rattle.gj_keep.specs.Openings.{Shows}

@@ -1,4 +1,4 @@
-use Rattle.std.proofs.Common.{◌≡◌, ◌≤◌, sym, ap, ◌∙◌, subst, refl, arith}
+use Rattle.std.proofs.Common.{◌≡◌, sym, subst, arith}
 use Rattle.std.specs.Bool.{IsTrue}
 use Rattle.gj_base.specs.Kept.{with_rows}
 use Rattle.gj_keep.specs.Books.{BookView, BookKeeps, trimmed}

@@ -1,4 +1,4 @@
-use Rattle.std.proofs.Common.{◌≡◌, [], List, lit<, sym, ap, ◌∙◌, subst}
+use Rattle.std.proofs.Common.{List, lit<, sym, ◌∙◌, subst}
 use Rattle.gj_base.specs.declared.keeper.KeptItem.{KeptItem}
 use Rattle.gj_base.specs.History.{StandsFor}
 use Rattle.gj_keep.specs.Rows.{opened}

@@ -1,5 +1,4 @@
-use Rattle.std.proofs.Common.{ℕ, List, ap, subst}
-use mathlib.Core.List.{IsPrefix}
+use Rattle.std.proofs.Common.{ℕ, List, subst}
 use Rattle.gj_base.specs.declared.item.Entry.{Entry}
 use Rattle.gj_base.specs.declared.history.History.{History}
 use Rattle.gj_base.specs.History.{Begins}

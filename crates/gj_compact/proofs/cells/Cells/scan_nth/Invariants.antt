@@ -1,6 +1,6 @@
 use Rattle.std.proofs.Common.{◌≡◌, ◌-◌, filter, take, drop}
 use Rattle.gj_compact.specs.Blocks.{lets_through}
-use Rattle.gj_compact.proofs.cells.Cells.nth.Given as goal
+use Rattle.gj_compact.proofs.cells.Cells.scan_nth.Given as goal
 
 -- what is left of the eligible ends from i on is what is left of the other ends' eligible ones
 abbrev pub invariant-loop-k : goal.invariant-loop-k
