@@ -1,7 +1,6 @@
 //! Where connections come from.
 
-use gj_base::Failed;
-use gj_base::Link;
+use gj_base::{Failed, Link};
 use gj_session::Done;
 
 /// Where connections come from, and where they go back to.

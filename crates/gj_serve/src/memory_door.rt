@@ -3,8 +3,7 @@ ghost use Rattle.std.specs.Prelude.{◌≡◌, ◌+◌, ◌^◌, ◌<◌, ◌≤
 ghost use Rattle.gj_serve.specs.Fresh.{IsFreshLink};
 
 use crate::door::Door;
-use gj_base::{Calls, Failed, Memory};
-use gj_base::MemoryLink;
+use gj_base::{Calls, Failed, Memory, MemoryLink};
 use gj_session::Done;
 use std::alloc::Global;
 
