@@ -1,0 +1,47 @@
+//! Where connections come from.
+
+use gj_base::{Failed, Link};
+use gj_session::Done;
+
+/// Where connections come from, and where they go back to.
+pub trait Door {
+    /// A connection.
+    type Link: Link + Send;
+
+    ghost use Rattle.std.specs.Prelude.{ℕ, ◌≡◌, ◌+◌, ◌^◌, ◌<◌, ◌≤◌, IsTrue, [], OnErr};
+    ghost use Rattle.gj_base.specs.Causes.{HasCause};
+    ghost use Rattle.gj_serve.specs.Doors.{HandsOut};
+
+    // How many links were handed out.
+    ghost handed: { Self → ℕ };
+
+    // How many of them came back.
+    ghost back: { Self → ℕ };
+
+    // How often it answered that it is closed.
+    ghost nones: { Self → ℕ };
+
+    // How often a call failed.
+    ghost faults: { Self → ℕ };
+
+    /// Opens the door at the port.
+    fn listen(&mut self, port: u16) -> Result<(), Failed>
+        requires fresh { (handed self.old ≡ 0) × (back self.old ≡ 0) × (nones self.old ≡ 0) }
+        ensures same { (handed self.new ≡ 0) × (back self.new ≡ 0) × (nones self.new ≡ 0) }
+        ensures cause { HasCause (faults self.old) (faults self.new) result };
+
+    /// The next connection, or none where the door is closed. It may wait where the door is real.
+    fn next_link(&mut self) -> Result<Option<Self::Link>, Failed>
+        requires in_range { (handed self.old < 2 ^ 40) × (nones self.old < 2 ^ 40) }
+        ensures handed { HandsOut Self.Link.tells Self.Link.stream Self.Link.written (handed self.old) (handed self.new) (nones self.old) (nones self.new) result }
+        ensures back { back self.new ≡ back self.old }
+        ensures cause { HasCause (faults self.old) (faults self.new) result };
+
+    /// Takes a connection back that was served.
+    fn give_back(&mut self, done: Done<Self::Link>)
+        requires some { back self.old < handed self.old }
+        requires in_range { back self.old < 2 ^ 40 }
+        ensures back { back self.new ≡ back self.old + 1 }
+        ensures others { (handed self.new ≡ handed self.old) × (nones self.new ≡ nones self.old) }
+        ensures later { faults self.old ≤ faults self.new };
+}
