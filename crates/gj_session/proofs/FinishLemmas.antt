@@ -1,5 +1,5 @@
 -- A session over a link that is finished: of its room nothing is said then.
-use Rattle.std.proofs.Common.{◌≡◌, ◌⊎◌, inl, inr, ℕ, ◌+◌, ◌≤◌, List, length, refl, arith}
+use Rattle.std.proofs.Common.{inl, inr, ℕ, List, arith}
 use Rattle.gj_session.specs.Runs.{Exchange}
 use Rattle.gj_session.specs.Sessions.{IsOpen, Ends, Replayed}
 use Rattle.gj_session.specs.Streams.{Incoming, Outgoing, Wrote, WrotePart}

@@ -1,5 +1,5 @@
 -- The turns of a session, and the whole of it.
-use Rattle.std.proofs.Common.{◌≡◌, ◌≢◌, ℕ, ◌+◌, ◌<◌, ◌∙◌, IsTrue, List, [], ◌∷◌, ◌++◌, length, refl, ap, sym, subst, arith, append-nil, length-append}
+use Rattle.std.proofs.Common.{◌≡◌, ℕ, ◌+◌, ◌<◌, ◌∙◌, IsTrue, List, [], ◌∷◌, ◌++◌, length, refl, ap, sym, subst, arith, append-nil, length-append}
 use Rattle.gj_base.specs.Stream.{Reading}
 use Rattle.gj_http.specs.Cut.{NeedsMore}
 use Rattle.gj_http.specs.Request.{Request}

@@ -1,5 +1,5 @@
 -- What a post by a seat is answered.
-use Rattle.std.proofs.Common.{◌≡◌, ◌≢◌, ◌⊎◌, inl, inr, ℕ, ◌+◌, ◌-◌, ◌^◌, ◌<◌, ◌≤◌, ◌==◌, ◌∙◌, min, Bool, true, false, List, [], ◌∷◌, ◌++◌, length, count_by, cond, Result, Ok, Err, IfOk, IfErr, OnOk, IsErrOf, if◌then◌else◌, refl, ap, sym, subst, arith, append-nil}
+use Rattle.std.proofs.Common.{◌≡◌, ◌≢◌, ◌⊎◌, inl, inr, ℕ, ◌+◌, ◌^◌, ◌<◌, ◌≤◌, ◌==◌, ◌∙◌, Bool, true, false, List, [], length, Result, Ok, Err, IfOk, IfErr, OnOk, IsErrOf, refl, ap, sym, subst, arith, append-nil}
 use Rattle.std.proofs.lemmas.Bool.{cases_lt}
 use Rattle.std.proofs.lemmas.List.Sums.{count_by-le-length}
 use Rattle.gj_base.specs.Causes.{RoseBy}
@@ -12,7 +12,7 @@ use Rattle.gj_base.specs.declared.item.Entry.{Entry}
 use Rattle.gj_base.specs.declared.item.Item.{Item}
 use Rattle.gj_base.specs.declared.item.Receipt.{Receipt}
 use Rattle.gj_publish.specs.Answers.{after_post}
-use Rattle.gj_publish.specs.Seats.{SeatView, Numbers, raised, looked, not_looked}
+use Rattle.gj_publish.specs.Seats.{SeatView, Numbers, raised, looked}
 use Rattle.gj_publish.specs.Writers.{by_seat}
 use Rattle.gj_publish.specs.declared.refusal.NoLook.{NoLook}
 use Rattle.gj_publish.specs.declared.refusal.PostError.{PostError}
@@ -21,13 +21,13 @@ use Rattle.gj_reply.specs.declared.fixed.Fixed.{Fixed}
 use Rattle.gj_reply.specs.declared.fixed.Fixed.TheVariants as fixed
 use Rattle.gj_reply.specs.declared.reply.Reply.{Reply}
 use Rattle.gj_reply.specs.declared.reply.Reply.TheVariants as replies
-use Rattle.gj_session.specs.Answers.{mark_at, window_under}
-use Rattle.gj_session.specs.AnsweringLaws.{Uncounts, uncounts_reply, uncounts_lack, rose_none}
+use Rattle.gj_session.specs.Answers.{window_under}
+use Rattle.gj_session.specs.AnsweringLaws.{Uncounts, uncounts_reply, rose_none}
 use Rattle.gj_session.specs.IndexRuns.{one_if}
-use Rattle.gj_session.specs.Outcomes.{IsLack, IsReply, is_store, is_full, is_apart, is_no_look}
+use Rattle.gj_session.specs.Outcomes.{IsReply, is_store, is_full, is_apart, is_no_look}
 use Rattle.gj_session.specs.Reference.{reply_of}
 use Rattle.gj_session.specs.SeatReplies.{entered_items, outcome_of}
-use Rattle.gj_session.specs.SeatRuns.{is_look, CountedOne, SameSeat, SeatAnswers}
+use Rattle.gj_session.specs.SeatRuns.{is_look, CountedOne, SeatAnswers}
 use Rattle.gj_session.specs.SeatLaws.{made_none}
 use Rattle.gj_session.specs.Streams.{Made}
 use Rattle.gj_session.specs.declared.outcome.Outcome.{Outcome}

@@ -1,7 +1,6 @@
 -- What a run says of a seat.
-use Rattle.std.proofs.Common.{◌≡◌, ◌⊎◌, inl, inr, add-zero, ℕ, ◌+◌, ◌-◌, ◌^◌, ◌≤◌, ◌∙◌, min, Bool, true, false, List, [], ◌∷◌, count_by, Result, Ok, Err, refl, ap, sym, subst, arith}
+use Rattle.std.proofs.Common.{◌≡◌, ◌⊎◌, inl, inr, add-zero, ℕ, ◌+◌, ◌^◌, ◌≤◌, ◌∙◌, Bool, false, List, [], ◌∷◌, count_by, Result, Ok, Err, refl, ap, sym, subst, arith}
 use Rattle.std.proofs.lemmas.List.Sums.{sum_by-append}
-use Rattle.gj_base.specs.Causes.{RoseBy}
 use Rattle.gj_base.specs.Configuration.{Configuration}
 use Rattle.gj_base.specs.declared.ask.Ask.{Ask}
 use Rattle.gj_base.specs.declared.ask.Ask.TheVariants as asks

@@ -1,7 +1,6 @@
 -- What was taken and written, put together.
-use Rattle.std.proofs.Common.{◌≡◌, ℕ, ◌+◌, ◌-◌, ◌<◌, ◌≤◌, ◌∙◌, IsTrue, List, [], ◌++◌, length, take, drop, take-add, length-take, zero, suc, refl, ap, sym, subst, arith, append_assoc, append-nil, length-append}
+use Rattle.std.proofs.Common.{◌≡◌, ℕ, ◌+◌, ◌-◌, ◌≤◌, ◌∙◌, IsTrue, List, [], ◌++◌, length, take, drop, take-add, length-take, refl, ap, sym, subst, arith, append_assoc, append-nil, length-append}
 use Rattle.std.proofs.lemmas.List.{length-drop, take_all}
-use Rattle.gj_base.specs.Causes.{one_more}
 use Rattle.gj_base.specs.Stream.{Reading}
 use Rattle.gj_session.specs.Streams.{Incoming, Outgoing, FailedOnce, Made, TookAll, Took, Wrote, WrotePart}
 

@@ -1,6 +1,6 @@
 -- The laws of a seat that answers messages.
-use Rattle.std.specs.Prelude.{◌≡◌, ℕ, ◌+◌, ◌≤◌, Bool, true, false, List, Result, Ok, Err, refl}
-use Rattle.std.proofs.Common.{inl, inr, sym, subst, arith, ap, ◌∙◌, if◌then◌else◌, min, ◌-◌, ◌^◌}
+use Rattle.std.specs.Prelude.{◌≡◌, ℕ, ◌≤◌, Bool, false, List, Result, Ok, Err, refl}
+use Rattle.std.proofs.Common.{inl, arith}
 use Rattle.gj_base.specs.Causes.{RoseBy}
 use Rattle.gj_base.specs.Configuration.{Configuration}
 use Rattle.gj_base.specs.declared.ask.Ask.{Ask}
@@ -14,7 +14,7 @@ use Rattle.gj_reply.specs.declared.reply.Reply.TheVariants as replies
 use Rattle.gj_session.specs.AnsweringLaws.{begins_itself, lacked_ask, batch_stands, Uncounts, uncounts, uncounts_lack, rose_none}
 use Rattle.gj_session.specs.IndexRuns.{one_if}
 use Rattle.gj_session.specs.Outcomes.{IsReply, IsLack, Uncounted, lack_after, is_store, is_full, is_apart, is_no_look}
-use Rattle.gj_session.specs.SeatRuns.{mark_of, is_look, is_batch_look, CountedOne, SameSeat, SeatAnswers}
+use Rattle.gj_session.specs.SeatRuns.{mark_of, is_look, CountedOne, SameSeat, SeatAnswers}
 use Rattle.gj_session.specs.Streams.{Made}
 use Rattle.gj_session.specs.declared.outcome.Outcome.{Outcome}
 use Rattle.gj_session.specs.declared.outcome.Outcome.TheVariants.{Says, Stands}

@@ -5,7 +5,6 @@ use Rattle.gj_base.specs.Configuration.{Configuration}
 use Rattle.gj_base.specs.History.{Begins}
 use Rattle.gj_base.specs.declared.ask.Ask.{Ask}
 use Rattle.gj_base.specs.declared.ask.Ask.TheVariants as asks
-use Rattle.gj_http.specs.Request.{Request}
 use Rattle.gj_publish.specs.Seats.{SeatView, Numbers}
 use Rattle.gj_reply.specs.declared.fixed.Fixed.{Fixed}
 use Rattle.gj_reply.specs.declared.fixed.Fixed.TheVariants.{Accepted}

@@ -1,5 +1,4 @@
-use Rattle.std.proofs.Common.{◌≡◌, arith}
-use Rattle.gj_session.proofs.EndLemmas.{come, gone}
+use Rattle.std.proofs.Common.{arith}
 use Rattle.gj_session.proofs.FinishLemmas.{finishes}
 use Rattle.gj_session.proofs.LoopLemmas.{replayed_as}
 use Rattle.gj_session.proofs.SeatRunLemmas.{seat_ran}
