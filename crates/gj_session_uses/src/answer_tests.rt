@@ -1,0 +1,205 @@
+ghost use Rattle.std.specs.Prelude.{◌≡◌, ◌<◌, [], ◌∷◌, IfOk};
+
+use gj_base::{
+    Conf, Graph, Grow, IdList, Item, Kind, ListGraph, Mask, Memory, Query, SimAsk, SubAsk, WalkAsk,
+};
+use gj_reply::{Reply, Text, write_reply};
+use gj_session::answer_on;
+use std::alloc::Global;
+use std::process::Abort;
+use std::test::Fail;
+
+/// An empty window of two segments of 16 interactions.
+fn empty_graph(rt: &impl Abort, alloc: Global) -> Result<ListGraph, Memory> {
+    let conf = Conf::make(16, 2).expect(rt, "16 and 2 are in range");
+    ListGraph::make(alloc, conf, 0)
+}
+
+/// Adds these.
+fn add(rt: &impl Abort, graph: &mut ListGraph, items: &[Item]) {
+    for item in items {
+        assert!(rt; graph.length() < 100);
+        graph.add(*item);
+    }
+}
+
+fn item(user: u64, post: u64, kind: Kind) -> Item
+    requires user { user < 100 }
+    requires post { post < 100 }
+{
+    Item {
+        user,
+        post,
+        kind,
+        at: 0,
+    }
+}
+
+/// The body of the answer to a query.
+fn body_of(alloc: Global, graph: &ListGraph, query: &Query) -> Result<Vec<u8>, Memory> {
+    let reply = answer_on(alloc, graph, query)?;
+    let Text { status: _, body } = write_reply(alloc, &reply)?;
+    Ok(body)
+}
+
+fn one_seed(alloc: Global) -> Result<IdList, Memory>
+    ensures { IfOk result (λ seeds. seeds ≡ 1 ∷ []) }
+{
+    let mut seeds = IdList::new(alloc);
+    seeds.push(1)?;
+    Ok(seeds)
+}
+
+/// A walk of six steps from user 1.
+fn walk(alloc: Global, since: u64) -> Result<Query, Memory>
+    requires { since < 100 }
+{
+    Ok(Query::Walk(WalkAsk {
+        seeds: one_seed(alloc)?,
+        steps: 6,
+        seed: 0,
+        mask: Mask::all(),
+        reset: 0,
+        top: 1,
+        proof: 1,
+        hide: false,
+        since,
+    }))
+}
+
+/// The subgraph of user 1, of one iteration.
+fn sub(alloc: Global, since: u64) -> Result<Query, Memory>
+    requires { since < 100 }
+{
+    Ok(Query::Sub(SubAsk {
+        seeds: one_seed(alloc)?,
+        iterations: 1,
+        mask: Mask::all(),
+        top: 1,
+        proof: 1,
+        since,
+    }))
+}
+
+/// What is similar to post 10, by two steps.
+fn sim(seed: u64, since: u64) -> Query
+    requires { since < 100 }
+{
+    Query::Sim(SimAsk {
+        post: 10,
+        steps: 2,
+        seed,
+        mask: Mask::all(),
+        top: 1,
+        since,
+    })
+}
+
+#[test]
+fn a_segment_leaves_the_answers_after_the_full_window(rt: HostRuntime) -> Result<(), Fail> {
+    let mut graph = empty_graph(&rt, rt.alloc())?;
+    add(&rt, &mut graph, &[item(1, 10, Kind::Click)]);
+    add(&rt, &mut graph, &[item(2, 20, Kind::Click); 31]);
+    let full = body_of(rt.alloc(), &graph, &Query::User(1))?;
+    assert_eq!(rt;
+        full.as_slice(),
+        b"{\"length\":32,\"user\":1,\"degree\":1,\"recent\":[{\"post\":10,\"kind\":\"click\"}]}".as_slice()
+    );
+    add(&rt, &mut graph, &[item(2, 20, Kind::Click)]);
+    let gone = body_of(rt.alloc(), &graph, &Query::User(1))?;
+    assert_eq!(rt;
+        gone.as_slice(),
+        b"{\"length\":33,\"user\":1,\"degree\":0,\"recent\":[]}".as_slice()
+    );
+    let stats = body_of(rt.alloc(), &graph, &Query::Stats)?;
+    assert_eq!(rt;
+        stats.as_slice(),
+        b"{\"length\":33,\"base\":16,\"capacity\":16,\"segments\":2,\"kinds\":{\"click\":17,\"favorite\":0,\"retweet\":0,\"reply\":0,\"tweet\":0}}".as_slice()
+    );
+    Ok(())
+}
+
+#[test]
+fn a_query_is_behind_above_the_length_alone(rt: HostRuntime) -> Result<(), Fail> {
+    let mut graph = empty_graph(&rt, rt.alloc())?;
+    add(&rt, &mut graph, &[item(1, 10, Kind::Click)]);
+    let walked = body_of(rt.alloc(), &graph, &walk(rt.alloc(), 1)?)?;
+    assert_eq!(rt;
+        walked.as_slice(),
+        b"{\"length\":1,\"results\":[{\"post\":10,\"visits\":3,\"proof\":[1]}]}".as_slice()
+    );
+    let alone = body_of(rt.alloc(), &graph, &sim(5, 1))?;
+    assert_eq!(rt;
+        alone.as_slice(),
+        b"{\"length\":1,\"results\":[]}".as_slice()
+    );
+    for query in [walk(rt.alloc(), 2)?, sub(rt.alloc(), 2)?, sim(5, 2)] {
+        let behind = body_of(rt.alloc(), &graph, &query)?;
+        assert_eq!(rt;
+            behind.as_slice(),
+            b"{\"error\":\"behind\",\"length\":1}".as_slice()
+        );
+    }
+    Ok(())
+}
+
+/// The second word of seed 5 picks the later of the two interactions.
+#[test]
+fn similar_posts_are_answered(rt: HostRuntime) -> Result<(), Fail> {
+    let mut graph = empty_graph(&rt, rt.alloc())?;
+    add(
+        &rt,
+        &mut graph,
+        &[item(1, 10, Kind::Click), item(1, 20, Kind::Click)],
+    );
+    for (seed, results) in [
+        (0, b"{\"length\":2,\"results\":[]}".as_slice()),
+        (
+            5,
+            b"{\"length\":2,\"results\":[{\"post\":20,\"co\":1,\"degree\":1}]}".as_slice(),
+        ),
+    ] {
+        let body = body_of(rt.alloc(), &graph, &sim(seed, 0))?;
+        assert_eq!(rt; body.as_slice(), results, "seed {seed}");
+    }
+    Ok(())
+}
+
+#[test]
+fn twenty_of_21_ends_are_recent_newest_first(rt: HostRuntime) -> Result<(), Fail> {
+    let mut graph = empty_graph(&rt, rt.alloc())?;
+    for post in 0..21 {
+        add(&rt, &mut graph, &[item(1, post, Kind::Retweet)]);
+    }
+    let Reply::User { degree, recent, .. } = answer_on(rt.alloc(), &graph, &Query::User(1))? else {
+        panic!(rt; "no answer to a user");
+    };
+    assert_eq!(rt; degree, 21);
+    assert_eq!(rt; recent.len(), 20);
+    for (i, edge) in recent.as_slice().iter().enumerate() {
+        assert_eq!(rt; edge.id, 20_u64.saturating_sub(i as u64), "the end {i}");
+    }
+    Ok(())
+}
+
+#[test]
+fn all_kinds_are_shown_and_counted_apart(rt: HostRuntime) -> Result<(), Fail> {
+    let mut graph = empty_graph(&rt, rt.alloc())?;
+    add(&rt, &mut graph, &[item(1, 10, Kind::Click); 5]);
+    add(&rt, &mut graph, &[item(1, 11, Kind::Favorite)]);
+    add(&rt, &mut graph, &[item(1, 12, Kind::Retweet); 2]);
+    add(&rt, &mut graph, &[item(2, 13, Kind::Reply); 3]);
+    add(&rt, &mut graph, &[item(3, 13, Kind::Tweet); 4]);
+    add(&rt, &mut graph, &[item(4, 11, Kind::Tweet)]);
+    let stats = body_of(rt.alloc(), &graph, &Query::Stats)?;
+    assert_eq!(rt;
+        stats.as_slice(),
+        b"{\"length\":16,\"base\":0,\"capacity\":16,\"segments\":2,\"kinds\":{\"click\":5,\"favorite\":1,\"retweet\":2,\"reply\":3,\"tweet\":5}}".as_slice()
+    );
+    let post = body_of(rt.alloc(), &graph, &Query::Post(11))?;
+    assert_eq!(rt;
+        post.as_slice(),
+        b"{\"length\":16,\"post\":11,\"degree\":2,\"recent\":[{\"user\":4,\"kind\":\"tweet\"},{\"user\":1,\"kind\":\"favorite\"}]}".as_slice()
+    );
+    Ok(())
+}

@@ -1,0 +1,7 @@
+//! Sessions as their callers use them, in tests: reference answers, and sessions that are served over an opening.
+#![tactic(auto)]
+
+#[cfg(test)]
+mod answer_tests;
+#[cfg(test)]
+mod served_tests;
