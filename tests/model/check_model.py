@@ -12,6 +12,7 @@ import subprocess
 import sys
 import unittest
 
+from answers import History
 from draws import pick, resets, words
 from json_text import NoReading, tree_of
 from model import FIRST_ROUTES, replay, run
@@ -86,7 +87,7 @@ class Parts(unittest.TestCase):
         self.assertEqual(len(LONGEST_ITEMS), 405515)
 
     def test_a_session_before_all_routes_are_there(self):
-        output, _ = replay(post("/similar", "{}"), routes=FIRST_ROUTES)
+        output, _ = replay(post("/similar", "{}"), History(4096, 4), routes=FIRST_ROUTES)
         self.assertEqual(replies(output), [(404, '{"error":"route"}')])
 
     def test_a_program_without_options(self):

@@ -16,7 +16,7 @@ from answers import History, answer_query, answer_stats, answer_vertex
 from bodies import Refusal, read_body, read_id
 from heads import NeedMore, Refused, is_between_messages, take_message
 
-FINISHED, USAGE, TRUNCATED, STOPPED = 0, 2, 6, 9
+FINISHED, USAGE, TRUNCATED, STOPPED, CONF_DIFFERS = 0, 2, 6, 9, 11
 
 LINES_ON_ERR = {
     FINISHED: b"",
@@ -51,8 +51,10 @@ ROUTES = {
 WITH_ID = ("users", "posts")
 FIRST_ROUTES = {name: ROUTES[name] for name in ("interactions", "walk", "users", "posts", "stats")}
 
-# The least and the largest value of each option of the word `replay`.
+# The least and the largest value of each option of the word `replay` that is a number.
 OPTIONS = {"--capacity": (16, 65536), "--segments": (1, 64)}
+STORE = "--store"
+VERSION = 2
 
 
 def route_of(path, routes):
@@ -110,9 +112,8 @@ def response(status, tree, close, allow=None):
     return ("\r\n".join(lines) + "\r\n\r\n" + body).encode("ascii")
 
 
-def replay(input_bytes, capacity=4096, segments=4, routes=ROUTES):
-    """The output and the status of one session, from the empty history on."""
-    history = History(capacity, segments)
+def replay(input_bytes, history, routes=ROUTES):
+    """The output and the status of one session, from the history on, to which it adds."""
     output, rest = b"", input_bytes
     while True:
         try:
@@ -137,19 +138,39 @@ def values_of(arguments, options):
         name, equals, value = left.pop(0).partition("=")
         if not equals and left:
             value = left.pop(0)
-        if name not in options or name in values or not re.fullmatch("[0-9]{1,20}", value):
+        if name in values or not is_value(name, value, options):
             return None
-        least, most = options[name]
-        if not least <= int(value) <= most:
-            return None
-        values[name] = int(value)
+        values[name] = value if name == STORE else int(value)
     return {name.removeprefix("--"): value for name, value in values.items()}
 
 
-def run(arguments, input_bytes, options=OPTIONS, routes=ROUTES):
-    """What a run of the program gives: its output, its status, and its line on standard error."""
+def is_value(name, value, options):
+    if name == STORE:
+        return value != "" and STORE in options
+    if name not in options or not re.fullmatch("[0-9]{1,20}", value):
+        return False
+    least, most = options[name]
+    return least <= int(value) <= most
+
+
+def differing(kept, asked):
+    """The line for a store that keeps another configuration."""
+    texts = (f"version {VERSION} capacity {c} segments {s}" for c, s in (kept, asked))
+    return "kept {}, asked {}\n".format(*texts).encode("ascii")
+
+
+def run(arguments, input_bytes, options=OPTIONS, routes=ROUTES, stores=None):
+    """What a run of the program gives: its output, its status, and its line on standard error. The histories that are
+    kept stand in `stores` by their paths."""
     values = values_of(arguments, options)
     if values is None:
         return b"", USAGE, LINES_ON_ERR[USAGE]
-    output, status = replay(input_bytes, **values, routes=routes)
+    asked = (values.get("capacity", 4096), values.get("segments", 4))
+    history = History(*asked)
+    if "store" in values:
+        history = stores.setdefault(values["store"], history)
+        kept = (history.capacity, history.segments)
+        if kept != asked:
+            return b"", CONF_DIFFERS, differing(kept, asked)
+    output, status = replay(input_bytes, history, routes)
     return output, status, LINES_ON_ERR[status]

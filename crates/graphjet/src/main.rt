@@ -1,5 +1,5 @@
 //! graphjet: the program. It answers a recorded stream of HTTP requests from standard input to standard output, and makes
-//! workloads.
+//! workloads; with `--store` the window is kept in an SQLite file.
 #![tactic(auto)]
 
 mod arguments;
@@ -19,14 +19,14 @@ mod tests;
 use crate::arguments::words_of;
 use crate::devices::{StreamSink, StreamSource};
 use crate::local::{report, run_local};
-use gj_keep::NoKeepers;
+use gj_keep_sql::SqlKeepers;
 use std::process::ExitCode;
 
 fn main(rt: HostRuntime) -> ExitCode {
     let mut input = StreamSource::new(rt.stdin());
     let mut out = StreamSink::new(rt.stdout());
     let mut err = StreamSink::new(rt.stderr());
-    let mut stores = NoKeepers::new();
+    let mut stores = SqlKeepers::new(&rt);
     let status = match words_of(&rt) {
         Ok(words) => run_local(
             rt.alloc(),

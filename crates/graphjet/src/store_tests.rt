@@ -3,10 +3,12 @@ ghost use Rattle.std.specs.Prelude.{IsTrue};
 ghost use Rattle.gj_keep.specs.MemoryHomes.{is_home};
 
 use crate::local::run_local;
-use gj_base::{KeptConf, KeptItem, MemorySink, MemorySource};
+use gj_base::{Keepers, KeptConf, KeptItem, MemorySink, MemorySource};
 use gj_keep::{MemoryKeeper, MemoryKeepers};
+use gj_keep_sql::SqlKeepers;
 use std::alloc::Global;
 use std::test::Fail;
+use std::{env, fs, process};
 
 /// What a run left.
 #[derive(Drop)]
@@ -17,9 +19,9 @@ struct Ran {
 }
 
 /// A run over the arguments, which single blanks part.
-fn run(alloc: Global, line: &str, input: &str, stores: &mut MemoryKeepers) -> Result<Ran, Fail>
-    requires { IsTrue (is_home stores.old) }
-    ensures { IsTrue (is_home stores.new) }
+fn run<P: Keepers>(alloc: Global, line: &str, input: &str, stores: &mut P) -> Result<Ran, Fail>
+    requires { IsTrue (P.home stores.old) }
+    ensures { IsTrue (P.home stores.new) }
 {
     let mut words = Vec::new(alloc);
     for word in line.split(' ') {
@@ -87,6 +89,22 @@ impl Session {
         self.input.push_str(message.as_str())?;
         self.replied(alloc, "200 OK", reply)
     }
+
+    /// The window's numbers, of interactions that are all clicks.
+    fn stats(
+        &mut self,
+        alloc: Global,
+        length: u32,
+        base: u32,
+        conf: (u32, u32),
+        clicks: u32,
+    ) -> Result<(), Fail> {
+        let (capacity, segments) = conf;
+        let reply = format!(in alloc;
+            "{{\"length\":{length},\"base\":{base},\"capacity\":{capacity},\"segments\":{segments},\"kinds\":{{\"click\":{clicks},\"favorite\":0,\"retweet\":0,\"reply\":0,\"tweet\":0}}}}"
+        )?;
+        self.get(alloc, "/stats", reply.as_str())
+    }
 }
 
 const CLICK: &str = "{\"user\":2,\"post\":20,\"kind\":\"click\"}";
@@ -125,11 +143,7 @@ fn a_window_has_the_size_that_is_asked(rt: HostRuntime) -> Result<(), Fail> {
         "/users/1",
         "{\"length\":33,\"user\":1,\"degree\":0,\"recent\":[]}",
     )?;
-    rotation.get(
-        alloc,
-        "/stats",
-        "{\"length\":33,\"base\":16,\"capacity\":16,\"segments\":2,\"kinds\":{\"click\":17,\"favorite\":0,\"retweet\":0,\"reply\":0,\"tweet\":0}}",
-    )?;
+    rotation.stats(alloc, 33, 16, (16, 2), 17)?;
 
     let mut longest = Session::new(alloc);
     longest.post(
@@ -138,11 +152,7 @@ fn a_window_has_the_size_that_is_asked(rt: HostRuntime) -> Result<(), Fail> {
         "200 OK",
         "{\"from\":0,\"length\":4096}",
     )?;
-    longest.get(
-        alloc,
-        "/stats",
-        "{\"length\":4096,\"base\":4080,\"capacity\":16,\"segments\":1,\"kinds\":{\"click\":16,\"favorite\":0,\"retweet\":0,\"reply\":0,\"tweet\":0}}",
-    )?;
+    longest.stats(alloc, 4096, 4080, (16, 1), 16)?;
 
     let mut many = Session::new(alloc);
     many.post(
@@ -151,11 +161,7 @@ fn a_window_has_the_size_that_is_asked(rt: HostRuntime) -> Result<(), Fail> {
         "200 OK",
         "{\"from\":0,\"length\":1025}",
     )?;
-    many.get(
-        alloc,
-        "/stats",
-        "{\"length\":1025,\"base\":16,\"capacity\":16,\"segments\":64,\"kinds\":{\"click\":1009,\"favorite\":0,\"retweet\":0,\"reply\":0,\"tweet\":0}}",
-    )?;
+    many.stats(alloc, 1025, 16, (16, 64), 1009)?;
 
     for (line, session) in [
         ("replay --capacity 16 --segments 2", &rotation),
@@ -191,11 +197,7 @@ fn a_store_that_fails_refuses_a_post_and_no_other(rt: HostRuntime) -> Result<(),
     assert_eq!(rt; ran.out.written(), posts.output.as_str().as_bytes());
 
     let mut stats = Session::new(alloc);
-    stats.get(
-        alloc,
-        "/stats",
-        "{\"length\":2,\"base\":0,\"capacity\":4096,\"segments\":4,\"kinds\":{\"click\":2,\"favorite\":0,\"retweet\":0,\"reply\":0,\"tweet\":0}}",
-    )?;
+    stats.stats(alloc, 2, 0, (4096, 4), 2)?;
     let again = run(alloc, "replay --store s", stats.input.as_str(), &mut stores)?;
     assert_eq!(rt; again.out.written(), stats.output.as_str().as_bytes());
     Ok(())
@@ -268,5 +270,42 @@ fn a_load_writes_eight_lines(rt: HostRuntime) -> Result<(), Fail> {
         assert_eq!(rt; ran.out.written(), lines.as_bytes(), "{line}");
         assert!(rt; ran.err.written().is_empty(), "{line}");
     }
+    Ok(())
+}
+
+/// A new folder of the test's own.
+fn folder(rt: &HostRuntime) -> Result<String, Fail> {
+    let id = process::id(rt.process());
+    let root = env::temp_dir(rt)?;
+    let path = format!(in rt.alloc(); "{}/graphjet_{id}", root.as_str())?;
+    if fs::exists(rt, path.as_str())? {
+        fs::remove_dir_all(rt, path.as_str())?;
+    }
+    fs::create_dir_all(rt, path.as_str())?;
+    Ok(path)
+}
+
+#[test]
+fn a_window_in_a_file_is_gone_on_with(rt: HostRuntime) -> Result<(), Fail> {
+    let alloc = rt.alloc();
+    let path = folder(&rt)?;
+    let line = format!(in alloc; "replay --store {path}/posts.db")?;
+    let mut stores = SqlKeepers::new(&rt);
+    let mut posts = Session::new(alloc);
+    posts.post(alloc, FIRST, "200 OK", "{\"from\":0,\"length\":1}")?;
+    posts.post(alloc, CLICK, "200 OK", "{\"from\":1,\"length\":2}")?;
+    let mut later = Session::new(alloc);
+    later.post(alloc, CLICK, "200 OK", "{\"from\":2,\"length\":3}")?;
+    later.get(
+        alloc,
+        "/users/1",
+        "{\"length\":3,\"user\":1,\"degree\":1,\"recent\":[{\"post\":10,\"kind\":\"click\"}]}",
+    )?;
+    for session in [&posts, &later] {
+        let ran = run(alloc, line.as_str(), session.input.as_str(), &mut stores)?;
+        assert_eq!(rt; ran.status, 0);
+        assert_eq!(rt; ran.out.written(), session.output.as_str().as_bytes());
+    }
+    fs::remove_dir_all(&rt, path.as_str())?;
     Ok(())
 }
