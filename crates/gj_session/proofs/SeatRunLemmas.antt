@@ -83,21 +83,14 @@ ask_enters conf seat a (Err reply) lack o b x = ap (λ (m : Mark). m.entered) x.
 entered_then : (e : Exchange) (es : List Exchange) → entered_in (e ∷ es) ≡ entered_by (heard e.message) e.outcome + entered_in es
 entered_then e es = omega (arith, sum_by-append (λ (e : Exchange). entered_by (heard e.message) e.outcome) (e ∷ []) es)
 
--- what a run says, with the number of interactions that entered through the seat
-record Ran (conf : Configuration) (a b : SeatView) (es : List Exchange) : Type 0 where
-  pub ran : SeatRan conf a b es
-  pub last : (b.posted ≡ a.posted) ⊎ (b.posted ≤ 2 ^ 48)
-
-none_ran : (conf : Configuration) (s : SeatView) → Ran conf s s []
+none_ran : (conf : Configuration) (s : SeatView) → SeatRan conf s s []
 none_ran conf s = record {
-  ran = record {
-    same = same_seat s;
-    run = refl;
-    entered = sym (add-zero s.posted);
-    few = omega arith;
-    counts = record { looks = omega arith; refused = record { low = omega arith; high = omega arith }; store = omega arith; full = omega arith; apart = omega arith };
-  };
-  last = inl refl;
+  same = same_seat s;
+  run = refl;
+  entered = sym (add-zero s.posted);
+  few = omega arith;
+  in_range = inl refl;
+  counts = record { looks = omega arith; refused = record { low = omega arith; high = omega arith }; store = omega arith; full = omega arith; apart = omega arith };
 }
 
 few_by : (p q n : ℕ) → q ≡ p + n → (q ≡ p) ⊎ (q ≤ 2 ^ 48) → n ≤ 2 ^ 48
@@ -113,28 +106,23 @@ last_then p q r (inr low) (inl f) = inr (omega (arith, low, f))
 abbrev pub SeatMay : Configuration → SeatView → Result Ask Reply → Fixed → Outcome → SeatView → Type 0
 SeatMay conf x ask lack o y = SeatAnswers conf x y ask lack o
 
-ran_by : (conf : Configuration) (x y : SeatView) (es : List Exchange) → LedBy SeatView (SeatMay conf) x y es → Ran conf x y es
-ran_by conf x y [] e = subst (λ (s : SeatView). Ran conf x s []) (sym e) (none_ran conf x)
-ran_by conf x y (e ∷ es) l =
+pub seat_ran : (conf : Configuration) (x y : SeatView) (es : List Exchange) → LedBy SeatView (SeatMay conf) x y es → SeatRan conf x y es
+seat_ran conf x y [] e = subst (λ (s : SeatView). SeatRan conf x s []) (sym e) (none_ran conf x)
+seat_ran conf x y (e ∷ es) l =
     let mid : SeatView = l.0 in
     let one = l.1.0 in
-    let rest = ran_by conf mid y es l.1.1 in
-    let run : Run conf false x.number (mark_of mid) (mark_of y) es = rw (← one.same.number) rest.ran.run in
+    let rest = seat_ran conf mid y es l.1.1 in
+    let run : Run conf false x.number (mark_of mid) (mark_of y) es = rw (← one.same.number) rest.run in
     let first = ask_enters conf x.number (mark_of x) (heard e.message) (lack_of e.message) e.outcome (mark_of mid) one.answers in
     let more = entered_then e es in
-    let later = rest.ran.entered in
+    let later = rest.entered in
     let entered : y.posted ≡ x.posted + entered_in (e ∷ es) = omega (arith, first, more, later) in
-    let last = last_then x.posted mid.posted y.posted one.few rest.last in
+    let last = last_then x.posted mid.posted y.posted one.few rest.in_range in
     record {
-      ran = record {
-        same = record { later = begins_then x.front mid.front y.front one.same.later rest.ran.same.later; number = rest.ran.same.number ∙ one.same.number };
-        run = (mark_of mid, (answers_message conf false x.number (mark_of x) e.message e.outcome (mark_of mid) one.answers, run));
-        entered = entered;
-        few = few_by x.posted y.posted (entered_in (e ∷ es)) entered last;
-        counts = counted_then x.numbers mid.numbers y.numbers e es one.counts rest.ran.counts;
-      };
-      last = last;
+      same = record { later = begins_then x.front mid.front y.front one.same.later rest.same.later; number = rest.same.number ∙ one.same.number };
+      run = (mark_of mid, (answers_message conf false x.number (mark_of x) e.message e.outcome (mark_of mid) one.answers, run));
+      entered = entered;
+      few = few_by x.posted y.posted (entered_in (e ∷ es)) entered last;
+      in_range = last;
+      counts = counted_then x.numbers mid.numbers y.numbers e es one.counts rest.counts;
     }
-
-pub seat_ran : (conf : Configuration) (x y : SeatView) (es : List Exchange) → LedBy SeatView (SeatMay conf) x y es → SeatRan conf x y es
-seat_ran conf x y es l = (ran_by conf x y es l).ran

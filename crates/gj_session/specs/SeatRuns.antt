@@ -88,4 +88,5 @@ pub record SeatRan (conf : Configuration) (a b : SeatView) (exchanges : List Exc
   pub run : Run conf false a.number (mark_of a) (mark_of b) exchanges
   pub entered : b.posted ≡ a.posted + entered_in exchanges
   pub few : entered_in exchanges ≤ 2 ^ 48
+  pub in_range : (b.posted ≡ a.posted) ⊎ (b.posted ≤ 2 ^ 48)
   pub counts : Counted a.numbers b.numbers exchanges

@@ -1,5 +1,5 @@
 //! Sessions over connections, beside other seats.
-ghost use Rattle.std.specs.Prelude.{◌≡◌, ◌≢◌, ◌+◌, ◌^◌, ◌<◌, ◌≤◌, IsTrue, length};
+ghost use Rattle.std.specs.Prelude.{◌≡◌, ◌≢◌, ◌⊎◌, ◌+◌, ◌^◌, ◌<◌, ◌≤◌, IsTrue, length};
 ghost use Rattle.gj_base.specs.Causes.{Rose, RoseBy};
 ghost use Rattle.gj_session.specs.SeatRuns.{SameSeat, SeatRan};
 ghost use Rattle.gj_session.specs.Sessions.{Replayed, IsByInput, EndsByInput};
@@ -57,6 +57,7 @@ pub fn serve_session<
     // It is the same seat, which has seen no less, and what entered is told.
     ensures seat { SameSeat seat.old seat.new }
     ensures entered { seat.new.posted ≡ seat.old.posted + result.entered }
+    ensures in_range { (seat.new.posted ≡ seat.old.posted) ⊎ (seat.new.posted ≤ 2 ^ 48) }
 
     // The reads.
     ensures reads { L.reads result.link ≤ L.reads link + 1099511627776 }

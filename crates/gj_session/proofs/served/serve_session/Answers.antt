@@ -26,3 +26,6 @@ pub returns-clause-entered : goal.returns-clause-entered
 returns-clause-entered g c =
     let ran = seat_ran _ _ _ _ c.run_session-end.ensures.replayed.ended.answered.run in
     omega (arith, ran.entered, c.posted-before.ensures, c.posted.ensures, c.new.ensures.entered)
+
+pub returns-clause-in_range : goal.returns-clause-in_range
+returns-clause-in_range g c = (seat_ran _ _ _ _ c.run_session-end.ensures.replayed.ended.answered.run).in_range
