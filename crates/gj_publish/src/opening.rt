@@ -1,5 +1,5 @@
 //! Opening an index.
-ghost use Rattle.std.specs.Prelude.{◌≡◌, ◌≢◌, ◌⊎◌, ◌+◌, ◌<◌, ◌≤◌, ◌^◌, [], ◌∷◌, ℕ, List, false, length, replicate, slice_index_or, IfOk, IfErr, OnOk, IsTrue, MatchResult, None};
+ghost use Rattle.std.specs.Prelude.{◌≡◌, ◌≢◌, ◌⊎◌, ◌+◌, ◌<◌, ◌≤◌, ◌^◌, [], ◌∷◌, ℕ, List, false, length, replicate, slice_index_or, IfOk, IfErr, OnOk, IsTrue, MatchResult, None, Some};
 ghost use Rattle.left_right.specs.Handles.{published, pending};
 ghost use Rattle.gj_base.specs.declared.history.History.{History};
 ghost use Rattle.gj_base.specs.declared.keeper.KeptConf.{KeptConf};
@@ -7,7 +7,7 @@ ghost use Rattle.gj_base.specs.declared.keeper.KeptItem.{KeptItem};
 ghost use Rattle.gj_base.specs.Causes.{Rose};
 ghost use Rattle.gj_base.specs.History.{StandsFor, conf_of, empty_history, length_of};
 ghost use Rattle.gj_keep.specs.declared.opening.OpenError.TheVariants.{Memory, Store, ConfDiffers, Place};
-ghost use Rattle.gj_keep.specs.Books.{Keeps, told_rows};
+ghost use Rattle.gj_keep.specs.Books.{Keeps, asked, suits, told_rows};
 ghost use Rattle.gj_keep.specs.Openings.{IsLeft, IsPrepared, MayRefuse, due, faults_at, opening_of};
 ghost use Rattle.gj_keep.specs.Rows.{opened};
 ghost use Rattle.gj_publish.specs.Seats.{no_numbers};
@@ -188,7 +188,8 @@ pub fn open_index<J: Opening, K: Keeper + Drop, W: Grow + Drop, R: Wait + Drop>(
 
     // What a refusal leaves: the keeper, as it was or prepared.
     ensures err { IfErr result (λ r. IsLeft conf (K.kept keeper) (K.kept r.keeper)) }
-    ensures differs { IfErr result (λ r. (old now : KeptConf) → r.why ≡ ConfDiffers old now → K.kept r.keeper ≡ K.kept keeper) }
+    ensures differs { IfErr result (λ r. (old now : KeptConf) → r.why ≡ ConfDiffers old now
+        → (suits conf (Some old) ≡ false) × (now ≡ asked conf) × (K.kept r.keeper ≡ K.kept keeper)) }
 
     // A history that the keeper keeps, whatever call failed last before, is resumed, or still kept.
     ensures again { (h : History) → IsTrue (K.kept keeper).tells → Keeps conf (K.kept keeper) h → IfOk result (λ r. Resumes conf r.0.accepted h) }
