@@ -7,7 +7,7 @@ use gj_keep::NoKeepers;
 use std::alloc::Global;
 use std::test::Fail;
 
-const POST: &[u8] =
+pub const POST: &[u8] =
     b"POST /interactions HTTP/1.1\r\nContent-Length: 50\r\n\r\n{\"items\":[{\"user\":1,\"post\":10,\"kind\":\"favorite\"}]}";
 
 const WALK: &[u8] = b"POST /walk HTTP/1.1\r\nContent-Length: 23\r\n\r\n{\"seeds\":[1],\"steps\":6}";
