@@ -5,12 +5,11 @@ use crate::door::Door;
 use crate::tcp_link::TcpLink;
 use gj_base::Failed;
 use gj_session::Done;
-use std::io;
 use std::io::ErrorKind;
 use std::net::{Ipv4Addr, Net, SocketAddr, TcpListener, TcpStream};
 use std::rt::Clock;
-use std::thread;
 use std::time::Duration;
+use std::{io, thread};
 
 /// How often one call tries again after an error that passes.
 const TRIES: u32 = 1000;

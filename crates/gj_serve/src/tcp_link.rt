@@ -7,6 +7,7 @@ use std::time::Duration;
 
 /// How many reads of what a client still sends are made at most once its session has ended, and their size in bytes.
 const LAST_READS: u32 = 256;
+
 const LAST_PIECE: usize = 4096;
 
 /// How many milliseconds such a read waits at most.
@@ -36,7 +37,10 @@ impl TcpLink {
 
 /// Reads away what still comes, a bounded number of times, so that the peer reads its reply and not a reset.
 fn read_away(stream: &mut TcpStream) {
-    if stream.set_read_timeout(Some(Duration::from_millis(LAST_WAIT))).is_err() {
+    if stream
+        .set_read_timeout(Some(Duration::from_millis(LAST_WAIT)))
+        .is_err()
+    {
         return;
     }
     let mut into = [0u8; LAST_PIECE];
