@@ -6,8 +6,6 @@
 
 mod generator;
 mod posting;
-#[cfg(test)]
-mod tests;
 mod totals;
 mod walks;
 
