@@ -38,7 +38,7 @@ abbrev pub door_at : ℕ → ℕ → ℕ → ℕ → DoorAt
 door_at handed back nones faults = record { handed = handed; back = back; nones = nones; faults = faults }
 
 -- the first line was written, and of the last one a proper beginning
-record CutLast (old new : Outgoing) (port sessions length : ℕ) : Type 0 where
+pub record CutLast (old new : Outgoing) (port sessions length : ℕ) : Type 0 where
   pub mid : Outgoing
   pub first : Wrote old mid (ready_line port)
   pub cut : WroteBeginning mid new (last_line sessions length)
@@ -57,6 +57,7 @@ Writes (Refused error) port sessions length old new = ⊥
 pub record Told (plan : Plan) (length : ℕ) (a b : DoorAt) (old new : Outgoing) (end : ServiceEnd) : Type 0 where
   pub wrote : Writes end plan.port b.handed length old new
   pub all_back : b.back ≡ b.handed
+  pub few : b.handed < 2 ^ 64
   pub done : end ≡ Done → (b.handed ≡ plan.sessions) ⊎ (0 < b.nones)
   pub fault : end ≡ DoorFault → Rose a.faults b.faults
 
@@ -68,6 +69,7 @@ pub record Service (plan : Plan) (opens left : History → Type 0) (entered : �
   pub last : History
   pub begins : Begins opening last
   pub entered_is : length_of last ≡ length_of opening + entered
+  pub bounded : length_of last ≤ 2 ^ 48
   pub kept : left last
   pub told : Told plan (length_of last) a b old new end
 

@@ -6,8 +6,8 @@ ghost use Rattle.gj_service.specs.Services.{IsPlan, Told, door_at};
 ghost use Rattle.gj_service.specs.declared.end.ServiceEnd.TheVariants as ends;
 
 use crate::closing::{Rest, serve_desks};
-use crate::end::{ServiceEnd, end_after};
-use crate::lines::{send_last, send_ready};
+use crate::end::ServiceEnd;
+use crate::lines::{send_end, send_ready};
 use crate::plan::Plan;
 use crate::prepared::{Prepared, prepare};
 use gj_base::{Failed, Grow, Keeper, Sink};
@@ -111,9 +111,8 @@ pub fn serve_listening<
             } = serve_desks(
                 rt, alloc, writer, desks, passes, seats, routes, book,
             );
-            let wrote = send_last(out, sessions, length).is_ok();
             Listened {
-                end: end_after(end, wrote),
+                end: send_end(out, end, sessions, length),
                 entered,
                 door,
                 writer,

@@ -41,9 +41,10 @@ fn close<D, J: Opening, C: Copies<Operation = Batch<J>>, K: Keeper + Drop>(
     ensures numbers { (result.end ≡ end) × (result.entered ≡ entered) × (result.door ≡ door) }
     ensures keeps { Keeps J.conf (K.kept result.keeper) writer.accepted }
     ensures same { (K.kept result.keeper ≡ writer.kept) × (K.faults result.keeper ≡ writer.faults) }
+    ensures bounded { length_of writer.accepted ≤ 2 ^ 48 }
     ensures known { (opening : History) × Begins opening writer.accepted × (writer.start ≡ length_of opening) × IfSome J.opening (λ o. o ≡ opening) }
 {
-    let _ = writer.start();
+    let _ = (writer.start(), writer.length());
     Over {
         end,
         entered,
@@ -83,8 +84,9 @@ fn serve_index<
         (door_at (D.handed result.door) (D.back result.door) (D.nones result.door) (D.faults result.door))
         (outgoing (X.tells out.old) (X.written out.old) (X.faults out.old) (X.sure out.old))
         (outgoing (X.tells out.new) (X.written out.new) (X.faults out.new) (X.sure out.new)) result.end }
+    ensures back { D.back result.door ≡ D.handed result.door }
     ensures steady { IsTrue (D.steady door) → result.end ≢ ends.DoorFault }
-    ensures untouched { result.end ≡ ends.Memory → (K.kept result.keeper ≡ writer.kept) × (K.faults result.keeper ≡ writer.faults) × (out.new ≡ out.old) }
+    ensures untouched { result.end ≡ ends.Memory → (K.kept result.keeper ≡ writer.kept) × (out.new ≡ out.old) × (D.handed result.door ≡ 0) }
 {
     let mut door = door;
     let Ok(routes) = Routes::new(alloc) else {
@@ -136,12 +138,13 @@ fn serve_named<
         (door_at (D.handed result.door) (D.back result.door) (D.nones result.door) (D.faults result.door))
         (outgoing (X.tells out.old) (X.written out.old) (X.faults out.old) (X.sure out.old))
         (outgoing (X.tells out.new) (X.written out.new) (X.faults out.new) (X.sure out.new)) result.end }
+    ensures back { D.back result.door ≡ D.handed result.door }
     ensures judged { IsTrue (K.kept keeper).tells → Judges (due conf (K.kept keeper)) result.end }
     ensures bare { IsTrue (K.kept keeper).bare → Judges None result.end }
     ensures place { result.end ≡ ends.Refused why.Place → grants.new ≡ grants.old + 1 }
     ensures store { result.end ≡ ends.Refused why.Store → K.faults result.keeper ≡ one_more (K.faults keeper) }
     ensures steady_door { IsTrue (D.steady door) → result.end ≢ ends.DoorFault }
-    ensures left { IsUnserved result.end → IsLeft conf (K.kept keeper) (K.kept result.keeper) × (out.new ≡ out.old) }
+    ensures left { IsUnserved result.end → IsLeft conf (K.kept keeper) (K.kept result.keeper) × (out.new ≡ out.old) × (D.handed result.door ≡ 0) }
     ensures untouched { (error : OpenError) → result.end ≡ ends.Refused error → result.door ≡ door }
     ensures later { grants.old ≤ grants.new }
 {
@@ -196,6 +199,7 @@ pub fn serve_over<
         (door_at (D.handed result.door) (D.back result.door) (D.nones result.door) (D.faults result.door))
         (outgoing (X.tells out.old) (X.written out.old) (X.faults out.old) (X.sure out.old))
         (outgoing (X.tells out.new) (X.written out.new) (X.faults out.new) (X.sure out.new)) result.end }
+    ensures back { D.back result.door ≡ D.handed result.door }
 
     // When each refusal comes.
     ensures judged { IsTrue (K.kept keeper).tells → Judges (due conf (K.kept keeper)) result.end }
@@ -205,7 +209,7 @@ pub fn serve_over<
     ensures steady_door { IsTrue (D.steady door) → result.end ≢ ends.DoorFault }
 
     // What is left where no worker worked.
-    ensures left { IsUnserved result.end → IsLeft conf (K.kept keeper) (K.kept result.keeper) × (out.new ≡ out.old) }
+    ensures left { IsUnserved result.end → IsLeft conf (K.kept keeper) (K.kept result.keeper) × (out.new ≡ out.old) × (D.handed result.door ≡ 0) }
     ensures untouched { (error : OpenError) → result.end ≡ ends.Refused error → result.door ≡ door }
     ensures later { grants.old ≤ grants.new }
 {

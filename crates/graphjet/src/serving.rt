@@ -95,7 +95,8 @@ fn serve_bare<R: Threads + Wait + Copy + Drop + Send + Sync, D: Door + Send, O: 
         (outgoing (O.tells out.new) (O.written out.new) (O.faults out.new) (O.sure out.new)) result.end }
     ensures place { result.end ≡ ends.Refused why.Place → grants.new ≡ grants.old + 1 }
     ensures steady { IsTrue (D.steady door) → result.end ≢ ends.DoorFault }
-    ensures untouched { IsUnserved result.end → out.new ≡ out.old }
+    ensures untouched { IsUnserved result.end → (out.new ≡ out.old) × (D.handed result.door ≡ 0) }
+    ensures back { D.back result.door ≡ D.handed result.door }
     ensures refused { (error : OpenError) → result.end ≡ ends.Refused error → result.door ≡ door }
     ensures later { grants.old ≤ grants.new }
 {
@@ -142,7 +143,8 @@ where
     ensures place { result.end ≡ ends.Refused why.Place → grants.new ≡ grants.old + 1 }
     ensures steady_stores { IsTrue (P.steady stores.old) → result.end ≢ ends.Refused why.Store }
     ensures steady_door { IsTrue (D.steady door) → result.end ≢ ends.DoorFault }
-    ensures untouched { IsUnserved result.end → out.new ≡ out.old }
+    ensures untouched { IsUnserved result.end → (out.new ≡ out.old) × (D.handed result.door ≡ 0) }
+    ensures back { D.back result.door ≡ D.handed result.door }
     ensures refused { (error : OpenError) → result.end ≡ ends.Refused error → result.door ≡ door }
     ensures home { IsTrue (P.home stores.new) }
     ensures later { (P.faults stores.old ≤ P.faults stores.new) × (grants.old ≤ grants.new) }
@@ -202,7 +204,8 @@ where
     ensures place { result.end ≡ ends.Refused why.Place → grants.new ≡ grants.old + 1 }
     ensures steady_stores { IsTrue (P.steady stores.old) → result.end ≢ ends.Refused why.Store }
     ensures steady_door { IsTrue (D.steady door) → result.end ≢ ends.DoorFault }
-    ensures untouched { IsUnserved result.end → out.new ≡ out.old }
+    ensures untouched { IsUnserved result.end → (out.new ≡ out.old) × (D.handed result.door ≡ 0) }
+    ensures back { D.back result.door ≡ D.handed result.door }
     ensures refused { (error : OpenError) → result.end ≡ ends.Refused error → result.door ≡ door }
     ensures elsewhere { (serving_by service.now).store ≡ None → stores.new ≡ stores.old }
     ensures home { IsTrue (P.home stores.new) }

@@ -1,6 +1,7 @@
 use Rattle.std.proofs.Common.{◌≡◌, ◌+◌, ◌≤◌, [], ◌∷◌, ◌++◌, All, rules, arith, sym, subst}
 use Rattle.std.proofs.lemmas.List.Elements.{All-push}
 use Rattle.gj_serve.specs.declared.desks.Desk.{Desk}
+use Rattle.gj_publish.specs.Seats.{SeatView}
 use Rattle.gj_serve.specs.Passes.{Tallies, no_tallies}
 use Rattle.gj_service.specs.Desks.{IsFreshDesk}
 use Rattle.gj_service.proofs.DeskLemmas.{all_front, all_last}
