@@ -1,17 +1,21 @@
 -- What a run alone owes to its messages.
-use Rattle.std.proofs.Common.{◌≡◌, ◌⊎◌, inl, inr, ℕ, ◌+◌, ◌-◌, ◌^◌, ◌<◌, ◌≤◌, ◌∙◌, Bool, true, false, List, length, Result, Ok, if◌then◌else◌, refl, ap, subst, arith}
+use Rattle.std.proofs.Common.{◌≡◌, ◌⊎◌, inl, inr, ℕ, ◌+◌, ◌-◌, ◌^◌, ◌<◌, ◌≤◌, ◌∙◌, Bool, true, false, List, [], ◌∷◌, length, Option, Result, Ok, Err, if◌then◌else◌, refl, ap, sym, subst, arith}
 use Rattle.std.proofs.lemmas.Bool.{le-ltb}
 use Rattle.gj_base.specs.Causes.{RoseBy}
 use Rattle.gj_base.specs.Configuration.{Configuration}
 use Rattle.gj_base.specs.History.{end_of, length_of}
 use Rattle.gj_base.specs.declared.ask.Ask.{Ask}
 use Rattle.gj_base.specs.declared.ask.Ask.TheVariants as asks
+use Rattle.gj_base.specs.declared.ask.Route.{Route}
+use Rattle.gj_base.specs.declared.ask.Route.TheVariants as routes
 use Rattle.gj_base.specs.declared.ask.Query.{Query}
 use Rattle.gj_base.specs.declared.ask.Query.TheVariants as queries
 use Rattle.gj_base.specs.declared.history.History.{History}
 use Rattle.gj_base.specs.declared.history.Shown.{Shown}
 use Rattle.gj_base.specs.declared.item.Item.{Item}
 use Rattle.gj_http.specs.Request.{Request}
+use Rattle.gj_http.specs.Routes.{found_of}
+use Rattle.gj_http.specs.declared.found.RouteError.{RouteError}
 use Rattle.gj_reply.specs.Statuses.{status_of}
 use Rattle.gj_reply.specs.declared.fixed.Fixed.{Fixed}
 use Rattle.gj_reply.specs.declared.fixed.Fixed.TheVariants as fixed
@@ -19,13 +23,16 @@ use Rattle.gj_reply.specs.declared.reply.Reply.{Reply}
 use Rattle.gj_reply.specs.declared.reply.Reply.TheVariants as replies
 use Rattle.gj_reply.specs.declared.status.Status.TheVariants as statuses
 use Rattle.gj_session.specs.Answers.{Mark, Answers, AnswersAsk, AnswersBatch, window_under}
-use Rattle.gj_session.specs.Heard.{heard, lack_of}
+use Rattle.gj_session.specs.Completeness.{IsWithin, IsWhole, AnswersWhole}
+use Rattle.gj_session.specs.Heard.{heard, lack_at, lack_by, lack_of}
+use Rattle.gj_session.specs.IndexRuns.{one_if}
 use Rattle.gj_session.specs.Outcomes.{IsReply, is_store}
 use Rattle.gj_session.specs.Reference.{since_of, kind_reply, reply_of}
-use Rattle.gj_session.specs.Runs.{Exchange, stores_in}
+use Rattle.gj_session.specs.Runs.{Exchange, Leads, Run, stores_in}
 use Rattle.gj_session.specs.declared.outcome.Outcome.{Outcome}
 use Rattle.gj_session.specs.declared.outcome.Outcome.TheVariants.{Says, Stands}
 use Rattle.gj_session.proofs.LackLemmas.{heard_batch}
+use Rattle.gj_session.proofs.RunLemmas.{count_more}
 
 answers_ask : (conf : Configuration) (seat : ℕ) (a b : Mark) (m : Request) (ask : Ask) (o : Outcome) → heard m ≡ Ok ask
     → Answers conf true seat a m o b → AnswersAsk conf true seat a (Ok ask) (lack_of m) o b
@@ -81,3 +88,49 @@ kind_status queries.Stats w = refl
 
 pub no_stores : (before now : ℕ) (es : List Exchange) → RoseBy (stores_in es) before now → now ≡ before → before < 2 ^ 64 - 1 → stores_in es ≡ 0
 no_stores before now es rose same low = omega (arith, rose, same, low)
+
+whole_at : (route : Route) → IsWhole (Stands (lack_at route))
+whole_at routes.Interactions = tt
+whole_at _ = tt
+
+whole_by : (found : Result (Route × Option (List ℕ)) RouteError) → IsWhole (Stands (lack_by found))
+whole_by (Ok found) = whole_at found.0
+whole_by (Err why) = tt
+
+whole_lack : (m : Request) → IsWhole (Stands (lack_of m))
+unfolding lack_of
+whole_lack m = whole_by (found_of m.method m.path)
+
+-- an answer to what is there, by what was heard
+whole_heard : (conf : Configuration) (seat : ℕ) (a b : Mark) (m : Request) (o : Outcome) → Answers conf true seat a m o b → is_store o ≡ false
+    → (asked : Result Ask Reply) → heard m ≡ asked → IsWithin conf a asked → IsWhole o
+whole_heard conf seat a b m o x kept (Ok (asks.Query query)) e within = elim (whole_query conf seat a b m query o e x within) [
+  | inl said ↦ subst IsWhole (sym said) (kind_status query (window_under conf a.seen))
+  | inr lack ↦ subst IsWhole (sym lack) (whole_lack m)
+]
+whole_heard conf seat a b m o x kept (Ok (asks.Items batch)) e within = elim (whole_batch conf seat a b m batch o e x within kept) [
+  | inl said ↦ subst IsWhole (sym said) refl
+  | inr other ↦ elim other [
+      | inl entered ↦ subst IsWhole (sym entered) tt
+      | inr lack ↦ subst IsWhole (sym lack) tt
+    ]
+]
+whole_heard conf seat a b m o x kept (Err reply) e within = absurd within
+
+-- no answer by the store's fault: neither the first nor a later one
+not_first : (e : Exchange) (es : List Exchange) → stores_in (e ∷ es) ≡ 0 → is_store e.outcome ≡ false
+not_first e es none = by_first (is_store e.outcome) refl
+  where
+    by_first : (b : Bool) → is_store e.outcome ≡ b → is_store e.outcome ≡ false
+    by_first true is = absurd (let more = count_more (λ (x : Exchange). is_store x.outcome) e es in let one = ap one_if is in omega (arith, none, more, one))
+    by_first false is = is
+
+not_later : (e : Exchange) (es : List Exchange) → stores_in (e ∷ es) ≡ 0 → stores_in es ≡ 0
+not_later e es none = let more = count_more (λ (x : Exchange). is_store x.outcome) e es in omega (arith, none, more)
+
+pub whole_run : (conf : Configuration) (seat : ℕ) (a b : Mark) (es : List Exchange) → Run conf true seat a b es → stores_in es ≡ 0
+    → Leads Mark (λ (x : Mark) (m : Request) (o : Outcome) (y : Mark). Answers conf true seat x m o y × AnswersWhole conf x m o) a b es
+whole_run conf seat a b [] x none = x
+whole_run conf seat a b (e ∷ es) x none =
+    let kept = not_first e es none in
+    (x.0, ((x.1.0, whole_heard conf seat a x.0 e.message e.outcome x.1.0 kept (heard e.message) refl), whole_run conf seat x.0 b es x.1.1 (not_later e es none)))

@@ -1,5 +1,5 @@
 -- What a run says of an index that answers alone.
-use Rattle.std.proofs.Common.{◌≡◌, ℕ, ◌+◌, ◌==◌, ◌∙◌, Bool, true, List, [], ◌∷◌, length, count_by, cond, Result, refl, ap, sym, subst, arith, length-append, eq-eqb}
+use Rattle.std.proofs.Common.{◌≡◌, ℕ, ◌+◌, ◌==◌, ◌∙◌, Bool, true, false, List, [], ◌∷◌, length, count_by, cond, Result, refl, ap, sym, subst, arith, length-append, eq-eqb}
 use Rattle.std.proofs.lemmas.List.{length-map}
 use Rattle.std.proofs.lemmas.List.Sums.{sum_by-append}
 use Rattle.gj_base.specs.Causes.{RoseBy}
@@ -17,7 +17,7 @@ use Rattle.gj_session.specs.Heard.{heard, lack_of}
 use Rattle.gj_session.specs.IndexRuns.{IndexAt, IndexAnswers, IndexRan, one_if}
 use Rattle.gj_session.specs.Loop.{LedBy}
 use Rattle.gj_session.specs.Outcomes.{is_store}
-use Rattle.gj_session.specs.Runs.{Exchange, Run}
+use Rattle.gj_session.specs.Runs.{Exchange, Run, stores_in}
 use Rattle.gj_session.specs.declared.outcome.Outcome.{Outcome}
 
 -- a count, one member further
@@ -30,6 +30,13 @@ rose_then n m f0 f1 f2 x y = omega arith
 -- a count of exchanges rises as it rises by one and by the rest
 pub rose_more : (p : Exchange → Bool) (e : Exchange) (es : List Exchange) (a b c : ℕ) → RoseBy (one_if (p e)) a b → RoseBy (count_by p es) b c → RoseBy (count_by p (e ∷ es)) a c
 rose_more p e es a b c x y = subst (λ (n : ℕ). RoseBy n a c) (sym (count_more p e es)) (rose_then (one_if (p e)) (count_by p es) a b c x y)
+
+-- no answer by the store's fault, one exchange further
+none_more : (e : Exchange) (es : List Exchange) → is_store e.outcome ≡ false → stores_in es ≡ 0 → stores_in (e ∷ es) ≡ 0
+none_more e es kept none =
+    let more = count_more (λ (x : Exchange). is_store x.outcome) e es in
+    let zero = ap one_if kept in
+    omega (arith, more, zero, none)
 
 -- an ask that was answered is a message that was answered
 pub answers_message : (conf : Configuration) (alone : Bool) (seat : ℕ) (a : Mark) (m : Request) (o : Outcome) (b : Mark)
@@ -46,6 +53,7 @@ none_ran a = record {
   same = refl;
   runs = λ h seat shows. (h, (refl, record { shows = shows; keeps = λ kept. kept }));
   stores = omega arith;
+  steady = λ sure. (refl, sure);
 }
 
 pub index_ran : (S : Type 0) (at : S → IndexAt) (x y : S) (es : List Exchange) → LedBy S (IndexMay S at) x y es → IndexRan (at x) (at y) es
@@ -67,6 +75,10 @@ index_ran S at x y (e ∷ es) l =
             ),
           );
       stores = rose_more (λ e. is_store e.outcome) e es (at x).faults (at l.0).faults (at y).faults one.stores rest.stores;
+      steady = λ sure.
+          let first = one.steady sure in
+          let later = rest.steady first.1 in
+          (none_more e es first.0 later.0, later.1);
     }
 
 pub length_extend : (h : History) (seat : ℕ) (items : List Item) → length_of (extend h (entries_by seat items)) ≡ length_of h + length items

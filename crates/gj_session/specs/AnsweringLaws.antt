@@ -150,6 +150,7 @@ index_refused a reply lack outcome plain is reply_is = record {
   same = refl;
   answers = λ h seat shows. (h, ((reply_is, refl), record { shows = shows; keeps = λ kept. kept }));
   stores = rose_none (is_store outcome) a.faults (uncounts reply lack outcome plain is reply_is).store;
+  steady = λ sure. ((uncounts reply lack outcome plain is reply_is).store, sure);
 }
 
 pub index_lacked : (a : IndexAt) (ask : Ask) (lack : Fixed) → IsLack lack → IndexAnswers a a (Ok ask) lack (Stands lack)
@@ -157,7 +158,12 @@ index_lacked a ask lack is = record {
   same = refl;
   answers = λ h seat shows. (h, (lacked_ask _ true seat (mark_at seat h) ask lack is, record { shows = shows; keeps = λ kept. kept }));
   stores = rose_none (is_store (Stands lack)) a.faults (uncounts_lack lack is).store;
+  steady = λ sure. ((uncounts_lack lack is).store, sure);
 }
+
+-- a fixed reply is no fault of the store
+stands_store : (outcome : Outcome) → is_store (Stands (lack_after outcome fixed.NotAccepted)) ≡ false
+stands_store outcome = refl
 
 pub index_stands : (a b : IndexAt) (batch : List Item) (outcome : Outcome) → IndexAnswers a b (Ok (asks.Items batch)) fixed.NotAccepted outcome
     → IndexAnswers a b (Ok (asks.Items batch)) fixed.NotAccepted (Stands (lack_after outcome fixed.NotAccepted))
@@ -167,4 +173,5 @@ index_stands a b batch outcome x = record {
       let one = x.answers h seat shows in
       (one.0, (batch_stands true seat (mark_at seat h) batch outcome (mark_at seat one.0) one.1.0, one.1.1));
   stores = rose_less (one_if (is_store outcome)) a.faults b.faults x.stores;
+  steady = λ sure. (stands_store outcome, (x.steady sure).1);
 }

@@ -1,5 +1,5 @@
 -- What an index answers, alone: to one ask, and over a run.
-use Rattle.std.specs.Prelude.{◌≡◌, ℕ, Bool, true, if◌then◌else◌, List, Result}
+use Rattle.std.specs.Prelude.{◌≡◌, ℕ, Bool, true, false, IsTrue, if◌then◌else◌, List, Result}
 use Rattle.gj_base.specs.Causes.{RoseBy}
 use Rattle.gj_base.specs.History.{StandsFor, conf_of}
 use Rattle.gj_base.specs.declared.ask.Ask.{Ask}
@@ -12,14 +12,16 @@ use Rattle.gj_session.specs.Outcomes.{is_store}
 use Rattle.gj_session.specs.Runs.{Exchange, Run, stores_in}
 use Rattle.gj_session.specs.declared.outcome.Outcome.{Outcome}
 
--- an index at one moment: what its view shows, which histories it keeps, and how often a call of its store failed
+-- an index at one moment: what its view shows, which histories it keeps, how often a call of its store failed, and whether
+-- none fails from here on
 pub record IndexAt : Type 1 where
   pub viewed : Shown
   pub keeps : History → Type 0
   pub faults : ℕ
+  pub steady : Bool
 
-abbrev pub index_at : Shown → (History → Type 0) → ℕ → IndexAt
-index_at viewed keeps faults = record { viewed = viewed; keeps = keeps; faults = faults }
+abbrev pub index_at : Shown → (History → Type 0) → ℕ → Bool → IndexAt
+index_at viewed keeps faults steady = record { viewed = viewed; keeps = keeps; faults = faults; steady = steady }
 
 -- from a history for which the view stood to one for which it stands, which is kept where the first was kept
 pub record Carries (a b : IndexAt) (h new : History) : Type 0 where
@@ -30,17 +32,19 @@ pub record Carries (a b : IndexAt) (h new : History) : Type 0 where
 abbrev pub one_if : Bool → ℕ
 one_if b = if b then 1 else 0
 
--- an ask was answered: from each history for which the view stood
+-- an ask was answered: from each history for which the view stood; the store's fault is no answer where no call fails
 pub record IndexAnswers (a b : IndexAt) (ask : Result Ask Reply) (lack : Fixed) (outcome : Outcome) : Type 0 where
   pub same : conf_of b.viewed ≡ conf_of a.viewed
   pub answers : (h : History) (seat : ℕ) → StandsFor a.viewed h
       → (new : History) × (AnswersAsk (conf_of a.viewed) true seat (mark_at seat h) ask lack outcome (mark_at seat new) × Carries a b h new)
   pub stores : RoseBy (one_if (is_store outcome)) a.faults b.faults
+  pub steady : IsTrue a.steady → (is_store outcome ≡ false) × IsTrue b.steady
 
 -- from each history for which the view stood, a run alone of these exchanges leads to one for which it stands; the answers
--- by the store's fault are at most as many as its calls that failed
+-- by the store's fault are at most as many as its calls that failed, and none where no call fails
 pub record IndexRan (a b : IndexAt) (exchanges : List Exchange) : Type 0 where
   pub same : conf_of b.viewed ≡ conf_of a.viewed
   pub runs : (h : History) (seat : ℕ) → StandsFor a.viewed h
       → (new : History) × (Run (conf_of a.viewed) true seat (mark_at seat h) (mark_at seat new) exchanges × Carries a b h new)
   pub stores : RoseBy (stores_in exchanges) a.faults b.faults
+  pub steady : IsTrue a.steady → (stores_in exchanges ≡ 0) × IsTrue b.steady

@@ -1,5 +1,6 @@
 pub mod Answers
 pub mod AnsweringLaws
+pub mod Completeness
 pub mod Heard
 pub mod IndexRuns
 pub mod Loop

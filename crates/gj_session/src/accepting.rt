@@ -12,8 +12,8 @@ use gj_reply::{Fixed, Reply};
 pub fn accept_on<I: Index>(index: &mut I, items: &ItemList) -> Outcome
     requires some { 1 ≤ length items.now }
     requires few { length items.now ≤ 4096 }
-    ensures { IndexAnswers (index_at (I.viewed index.old) (I.keeps index.old) (I.faults index.old))
-        (index_at (I.viewed index.new) (I.keeps index.new) (I.faults index.new)) (Ok (asks.Items items.now)) Fixed.NotAccepted result }
+    ensures { IndexAnswers (index_at (I.viewed index.old) (I.keeps index.old) (I.faults index.old) (I.steady index.old))
+        (index_at (I.viewed index.new) (I.keeps index.new) (I.faults index.new) (I.steady index.new)) (Ok (asks.Items items.now)) Fixed.NotAccepted result }
 {
     match index.post_items(items.as_slice()) {
         Ok(receipt) => Outcome::Says(Reply::Posted {

@@ -59,13 +59,13 @@ impl<I: Index> Answering<Alone> for I {
     ghost use Rattle.gj_session.specs.IndexRuns.{IndexAnswers, index_at};
     ghost use Rattle.gj_session.specs.AnsweringLaws.{index_refused, index_lacked, index_stands};
 
-    ghost answers = { λ x ask lack outcome y. IndexAnswers (index_at (I.viewed x) (I.keeps x) (I.faults x)) (index_at (I.viewed y) (I.keeps y) (I.faults y)) ask lack outcome };
+    ghost answers = { λ x ask lack outcome y. IndexAnswers (index_at (I.viewed x) (I.keeps x) (I.faults x) (I.steady x)) (index_at (I.viewed y) (I.keeps y) (I.faults y) (I.steady y)) ask lack outcome };
 
-    ghost refused = { λ x reply lack outcome plain never is. index_refused (index_at (I.viewed x) (I.keeps x) (I.faults x)) reply lack outcome plain never is };
+    ghost refused = { λ x reply lack outcome plain never is. index_refused (index_at (I.viewed x) (I.keeps x) (I.faults x) (I.steady x)) reply lack outcome plain never is };
 
-    ghost lacked = { λ x ask lack never. index_lacked (index_at (I.viewed x) (I.keeps x) (I.faults x)) ask lack never };
+    ghost lacked = { λ x ask lack never. index_lacked (index_at (I.viewed x) (I.keeps x) (I.faults x) (I.steady x)) ask lack never };
 
-    ghost briefly = { λ x batch outcome y answered. index_stands (index_at (I.viewed x) (I.keeps x) (I.faults x)) (index_at (I.viewed y) (I.keeps y) (I.faults y)) batch outcome answered };
+    ghost briefly = { λ x batch outcome y answered. index_stands (index_at (I.viewed x) (I.keeps x) (I.faults x) (I.steady x)) (index_at (I.viewed y) (I.keeps y) (I.faults y) (I.steady y)) batch outcome answered };
 
     fn query(&mut self, _shared: &Alone, alloc: Global, query: &Query, lack: Fixed) -> Outcome {
         match answer_on(alloc, self.view(), query) {

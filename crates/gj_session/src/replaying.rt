@@ -28,7 +28,7 @@ pub fn replay_session<S: Source, O: Sink, I: Index>(
 ) -> End
     // What was taken, answered and written, by the end.
     ensures replayed { Replayed
-        (IndexRan (index_at (I.viewed index.old) (I.keeps index.old) (I.faults index.old)) (index_at (I.viewed index.new) (I.keeps index.new) (I.faults index.new)))
+        (IndexRan (index_at (I.viewed index.old) (I.keeps index.old) (I.faults index.old) (I.steady index.old)) (index_at (I.viewed index.new) (I.keeps index.new) (I.faults index.new) (I.steady index.new)))
         (incoming (S.tells input.old) (S.stream input.old) (S.faults input.old) (S.reads input.old))
         (incoming (S.tells input.new) (S.stream input.new) (S.faults input.new) (S.reads input.new))
         (outgoing (O.tells out.old) (O.written out.old) (O.faults out.old) (O.sure out.old))
@@ -51,6 +51,7 @@ pub fn replay_session<S: Source, O: Sink, I: Index>(
     ensures read_later { S.faults input.old ≤ S.faults input.new }
     ensures write_later { O.faults out.old ≤ O.faults out.new }
     ensures steady { S.steady input.old → result ≢ End.ReadFault }
+    ensures store_steady { IsTrue (I.steady index.old) → IsTrue (I.steady index.new) }
     ensures room { IsTrue (O.tells out.old) → result ≡ End.WriteFault → O.sure out.old + length (O.written out.old) ≤ length (O.written out.new) }
 
     // What stays.

@@ -20,6 +20,7 @@ returns-in-Ok g c =
         ),
       );
       stores = omega (arith, made.count);
+      steady = λ sure. (refl, (made.steady sure).1);
     }
 
 pub returns-in-Err-Full : goal.returns-in-Err-Full
@@ -34,4 +35,5 @@ returns-in-Err-Full g c =
       same = made.conf;
       answers = λ h seat shows. (h, (full w h seat items c.in-Err-Full.length is shows over.0 over.1, record { shows = shows_same w _ h made.stays shows; keeps = λ kept. made.err h kept }));
       stores = omega (arith, made.count);
+      steady = λ sure. (refl, (made.steady sure).1);
     }

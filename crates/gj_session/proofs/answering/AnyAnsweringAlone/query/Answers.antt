@@ -15,4 +15,5 @@ returns-in-Ok-clause-exact g c =
       same = refl;
       answers = λ h seat shows. (h, ((inl (moves_none true _, inl (ap Says (exact ∙ ap (reply_of q) shows)))), record { shows = shows; keeps = λ kept. kept }));
       stores = rw exact (rose_none (is_store (Says (reply_of q (g.I.Index.viewed x)))) (g.I.Index.faults x) (uncounts_reply _ (plain_reply q (g.I.Index.viewed x))).store);
+      steady = λ sure. (rw exact (uncounts_reply _ (plain_reply q (g.I.Index.viewed x))).store, sure);
     }
