@@ -33,7 +33,10 @@ rose_more p e es a b c x y = subst (λ (n : ℕ). RoseBy n a c) (sym (count_more
 
 -- no answer by the store's fault, one exchange further
 none_more : (e : Exchange) (es : List Exchange) → is_store e.outcome ≡ false → stores_in es ≡ 0 → stores_in (e ∷ es) ≡ 0
-none_more e es kept none = count_more (λ (x : Exchange). is_store x.outcome) e es ∙ (ap (λ b. one_if b + stores_in es) kept ∙ none)
+none_more e es kept none =
+    let more = count_more (λ (x : Exchange). is_store x.outcome) e es in
+    let zero = ap one_if kept in
+    omega (arith, more, zero, none)
 
 -- an ask that was answered is a message that was answered
 pub answers_message : (conf : Configuration) (alone : Bool) (seat : ℕ) (a : Mark) (m : Request) (o : Outcome) (b : Mark)
