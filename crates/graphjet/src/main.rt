@@ -12,6 +12,8 @@ mod loading;
 mod local;
 mod replaying;
 mod run_status;
+#[cfg(test)]
+mod serve_tests;
 mod serving;
 #[cfg(test)]
 mod store_tests;
