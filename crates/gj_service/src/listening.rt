@@ -108,9 +108,7 @@ pub fn serve_listening<
                 end,
                 door,
                 writer,
-            } = serve_desks(
-                rt, alloc, writer, desks, passes, seats, routes, book,
-            );
+            } = serve_desks(rt, alloc, writer, desks, passes, seats, routes, book);
             Listened {
                 end: send_end(out, end, sessions, length),
                 entered,

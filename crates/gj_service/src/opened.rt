@@ -148,15 +148,7 @@ fn serve_named<
     ensures untouched { (error : OpenError) → result.end ≡ ends.Refused error → result.door ≡ door }
     ensures later { grants.old ≤ grants.new }
 {
-    match open_index::<J, K, W, R>(
-        rt,
-        alloc,
-        naming,
-        conf,
-        keeper,
-        plan.workers,
-        grants,
-    ) {
+    match open_index::<J, K, W, R>(rt, alloc, naming, conf, keeper, plan.workers, grants) {
         Err(OpenRefused { keeper, why }) => Over {
             end: ServiceEnd::Refused(why),
             entered: 0,

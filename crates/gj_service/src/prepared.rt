@@ -54,14 +54,7 @@ fn set_up<W: Grow + Drop, J: Opening, T: Stating, B: Ledger, O: Ledger>(
 }
 
 /// The door's book, the desks and the lists. It takes all memory that follows the number of workers.
-pub(crate) fn prepare<
-    D: Door,
-    W: Grow + Drop,
-    J: Opening,
-    T: Stating,
-    B: Ledger,
-    O: Ledger,
->(
+pub(crate) fn prepare<D: Door, W: Grow + Drop, J: Opening, T: Stating, B: Ledger, O: Ledger>(
     alloc: Global,
     door: D,
     tickets: Tickets,

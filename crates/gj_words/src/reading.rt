@@ -42,7 +42,12 @@ pub(crate) fn matches_by<'a>(
 }
 
 /// The number of an option, or its default where it isn't given.
-pub(crate) fn number_option(matches: &ArgMatches, name: &str, range: Range, default: u64) -> Option<u64>
+pub(crate) fn number_option(
+    matches: &ArgMatches,
+    name: &str,
+    range: Range,
+    default: u64,
+) -> Option<u64>
     requires low { range.least ≤ default }
     requires high { default ≤ range.most }
     ensures exact { result ≡ number_in range default (first_of name.now (rows_of (found_of matches.now))) }

@@ -26,8 +26,9 @@ fn service(alloc: Global, line: &str) -> Result<String, Fail> {
                 sessions,
                 port,
             },
-        ) =>
-            format!(in alloc; "serve {capacity} {segments} {store:?} {workers} {sessions} {port}")?,
+        ) => format!(in alloc;
+            "serve {capacity} {segments} {store:?} {workers} {sessions} {port}"
+        )?,
         Err(WordsError::Usage) => String::from_str(alloc, "usage")?,
         Err(WordsError::Memory) => String::from_str(alloc, "memory")?,
     };

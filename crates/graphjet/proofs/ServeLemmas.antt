@@ -45,11 +45,11 @@ pub serves_home : (conf : Configuration) (path : List ℕ) (plan : Plan) (old ne
     → Serves conf (Some path) plan (record { stored = old; faults = f }) (record { stored = new; faults = f' }) d e o p end
 serves_home conf path plan old new kept kept' f f' entered d e o p end out told home untold service left judged = record {
   service = λ is. (
-      entered,
-      service_as plan _ _ _ _ entered d e o p end
-      (λ h k yes. (let same = out yes in known_told kept h (ap (λ (x : Kept). x.tells) same ∙ yes) untold k ∙ ap (λ (x : Kept). opened (told_rows x)) same))
-      (λ h. keeps_home conf old new kept' h told home)
-      (service is),
+    entered,
+    service_as plan _ _ _ _ entered d e o p end
+        (λ h k yes. (let same = out yes in known_told kept h (ap (λ (x : Kept). x.tells) same ∙ yes) untold k ∙ ap (λ (x : Kept). opened (told_rows x)) same))
+        (λ h. keeps_home conf old new kept' h told home)
+        (service is),
   );
   judged = λ yes. (let is = out yes in subst (λ (x : Kept). Judges (due conf x) end) is (judged (ap (λ (x : Kept). x.tells) is ∙ yes)));
   kept = λ no yes. (

@@ -40,7 +40,7 @@ ghost use Rattle.gj_serve.specs.MemoryDoors.{handed_by, back_at, nones_of};
 
 /// What a service left.
 #[derive(Drop)]
-struct Served {
+struct Left {
     status: u8,
     out: MemorySink,
     door: MemoryDoor,
@@ -52,7 +52,7 @@ fn served<R: Threads + Wait + Copy + Drop + Send + Sync>(
     alloc: Global,
     line: &str,
     door: MemoryDoor,
-) -> Result<Served, Fail>
+) -> Result<Left, Fail>
     requires { (handed_by door ≡ 0) × (back_at door ≡ 0) × (nones_of door ≡ 0) }
 {
     let mut words = Vec::new(alloc);
@@ -73,15 +73,18 @@ fn served<R: Threads + Wait + Copy + Drop + Send + Sync>(
         &mut stores,
         &mut Grants::new(),
     );
-    Ok(Served { status, out, door })
+    Ok(Left { status, out, door })
 }
 
 #[test]
 fn both_links_are_served_and_come_back(rt: HostRuntime) -> Result<(), Fail> {
     let alloc = rt.alloc();
-    for line in ["serve --workers 2", "serve --workers 1 --store s --sessions 2"] {
+    for line in [
+        "serve --workers 2",
+        "serve --workers 1 --store s --sessions 2",
+    ] {
         let door = door_of(alloc, Vec::new(alloc))?;
-        let Served { status, out, door } = served(&rt, alloc, line, door)?;
+        let Left { status, out, door } = served(&rt, alloc, line, door)?;
         assert_eq!(rt; status, 0, "{line}");
         assert_eq!(rt;
             out.written(),
@@ -92,7 +95,10 @@ fn both_links_are_served_and_come_back(rt: HostRuntime) -> Result<(), Fail> {
         assert_eq!(rt; back.len(), 2, "{line}");
         while let Some(done) = back.pop() {
             let link = done.into_link();
-            assert!(rt; link.sink().written().starts_with(b"HTTP/1.1 200 OK\r\n"), "{line}");
+            assert!(rt;
+                link.sink().written().starts_with(b"HTTP/1.1 200 OK\r\n"),
+                "{line}"
+            );
         }
     }
     Ok(())
@@ -109,7 +115,7 @@ fn a_fault_of_the_door_is_told(rt: HostRuntime) -> Result<(), Fail> {
     ] {
         let door = door_of(alloc, vec![in alloc; fails]?)?;
         let line = "serve --workers 1 --port 1";
-        let Served {
+        let Left {
             status,
             out,
             door: _,

@@ -48,7 +48,10 @@ fn status_of_end(end: ServiceEnd) -> RunStatus
         ServiceEnd::Memory => RunStatus::Memory,
         ServiceEnd::Refused(OpenError::Memory) => RunStatus::Memory,
         ServiceEnd::Refused(OpenError::Store) => RunStatus::StoreFault,
-        ServiceEnd::Refused(OpenError::ConfDiffers { kept, asked }) => RunStatus::ConfDiffers { kept, asked },
+        ServiceEnd::Refused(OpenError::ConfDiffers { kept, asked }) => RunStatus::ConfDiffers {
+            kept,
+            asked,
+        },
         ServiceEnd::Refused(OpenError::KeptRow { row }) => RunStatus::KeptRow { row },
         ServiceEnd::Refused(OpenError::Place) => RunStatus::NoPlace,
     }
@@ -112,12 +115,7 @@ fn serve_bare<R: Threads + Wait + Copy + Drop + Send + Sync, D: Door + Send, O: 
 }
 
 /// Serves over the window of the store at the path. The keeper comes home, however the service ended.
-fn serve_stored<
-    R: Threads + Wait + Copy + Drop + Send + Sync,
-    D: Door + Send,
-    O: Sink,
-    P: Keepers,
->(
+fn serve_stored<R: Threads + Wait + Copy + Drop + Send + Sync, D: Door + Send, O: Sink, P: Keepers>(
     rt: R,
     alloc: Global,
     conf: Conf,
@@ -174,12 +172,7 @@ where
 }
 
 /// Serves what is asked for.
-fn serve<
-    R: Threads + Wait + Copy + Drop + Send + Sync,
-    D: Door + Send,
-    O: Sink,
-    P: Keepers,
->(
+fn serve<R: Threads + Wait + Copy + Drop + Send + Sync, D: Door + Send, O: Sink, P: Keepers>(
     rt: R,
     alloc: Global,
     service: &Service,
@@ -215,9 +208,7 @@ where
     let plan = plan_by(service);
     match service.store {
         None => serve_bare(rt, alloc, conf, plan, door, out, grants),
-        Some(path) => serve_stored(
-            rt, alloc, conf, path, plan, door, out, stores, grants,
-        ),
+        Some(path) => serve_stored(rt, alloc, conf, path, plan, door, out, stores, grants),
     }
 }
 
@@ -228,12 +219,7 @@ struct Obeyed<D> {
 }
 
 /// Does what the arguments ask for.
-fn obey<
-    R: Threads + Wait + Copy + Drop + Send + Sync,
-    D: Door + Send,
-    O: Sink,
-    P: Keepers,
->(
+fn obey<R: Threads + Wait + Copy + Drop + Send + Sync, D: Door + Send, O: Sink, P: Keepers>(
     rt: R,
     alloc: Global,
     words: &[String],
@@ -280,9 +266,7 @@ where
             door,
         },
         Ok(service) => {
-            let Closed { end, door } = serve(
-                rt, alloc, &service, door, out, stores, grants,
-            );
+            let Closed { end, door } = serve(rt, alloc, &service, door, out, stores, grants);
             Obeyed {
                 status: status_of_end(end),
                 door,
