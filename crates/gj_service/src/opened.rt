@@ -143,6 +143,7 @@ fn serve_named<
     ensures bare { IsTrue (K.kept keeper).bare → Judges None result.end }
     ensures place { result.end ≡ ends.Refused why.Place → grants.new ≡ grants.old + 1 }
     ensures store { result.end ≡ ends.Refused why.Store → K.faults result.keeper ≡ one_more (K.faults keeper) }
+    ensures steady_keeper { IsTrue (K.steady keeper) → result.end ≢ ends.Refused why.Store }
     ensures steady_door { IsTrue (D.steady door) → result.end ≢ ends.DoorFault }
     ensures left { IsUnserved result.end → IsLeft conf (K.kept keeper) (K.kept result.keeper) × (out.new ≡ out.old) × (D.handed result.door ≡ 0) }
     ensures untouched { (error : OpenError) → result.end ≡ ends.Refused error → result.door ≡ door }
@@ -198,6 +199,7 @@ pub fn serve_over<
     ensures bare { IsTrue (K.kept keeper).bare → Judges None result.end }
     ensures place { result.end ≡ ends.Refused why.Place → grants.new ≡ grants.old + 1 }
     ensures store { result.end ≡ ends.Refused why.Store → K.faults result.keeper ≡ one_more (K.faults keeper) }
+    ensures steady_keeper { IsTrue (K.steady keeper) → result.end ≢ ends.Refused why.Store }
     ensures steady_door { IsTrue (D.steady door) → result.end ≢ ends.DoorFault }
 
     // What is left where no worker worked.
