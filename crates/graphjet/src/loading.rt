@@ -1,5 +1,5 @@
 //! A workload that is made from a number, over an index in memory.
-ghost use Rattle.std.specs.Prelude.{◌≡◌, ◌<◌, ◌≤◌, IfSome};
+ghost use Rattle.std.specs.Prelude.{◌≡◌, ◌<◌, ◌≤◌, length, IfSome};
 ghost use Rattle.gj_base.specs.Causes.{Rose};
 ghost use Rattle.gj_load.specs.Totals.{totals_of};
 ghost use Rattle.gj_session.specs.Streams.{outgoing};
@@ -41,6 +41,7 @@ pub fn load<O: Sink>(alloc: Global, conf: Conf, number: u64, count: u64, out: &m
         (outgoing (O.tells out.new) (O.written out.new) (O.faults out.new) (O.sure out.new)) result }
     ensures untouched { result ≡ statuses.Memory → out.new ≡ out.old }
     ensures cause { result ≡ statuses.WriteFault → Rose (O.faults out.old) (O.faults out.new) }
+    ensures room { result ≡ statuses.WriteFault → O.sure out.old < length (summary_of (totals_of conf number count)) }
 {
     let Some(totals) = totals(alloc, conf, number, count) else {
         return RunStatus::Memory;

@@ -49,7 +49,7 @@ fn replay_over<K: Keeper, W: Grow + Drop, S: Source, O: Sink>(
     out: &mut O,
 ) -> Over<K>
     ensures session { IsTrue (is_session result.status)
-        → Headline conf (OpensOver (K.kept keeper)) (Keeps conf (K.kept result.keeper)) (K.faults keeper) (K.faults result.keeper)
+        → Headline conf (OpensOver (K.kept keeper)) (Keeps conf (K.kept result.keeper)) (K.faults keeper) (K.faults result.keeper) (K.steady keeper)
         (incoming (S.tells input.old) (S.stream input.old) (S.faults input.old) (S.reads input.old))
         (incoming (S.tells input.new) (S.stream input.new) (S.faults input.new) (S.reads input.new))
         (outgoing (O.tells out.old) (O.written out.old) (O.faults out.old) (O.sure out.old))
@@ -64,6 +64,7 @@ fn replay_over<K: Keeper, W: Grow + Drop, S: Source, O: Sink>(
 
     // The causes of faults.
     ensures store_cause { result.status ≡ statuses.StoreFault → K.faults result.keeper ≡ one_more (K.faults keeper) }
+    ensures store_steady { IsTrue (K.steady keeper) → (result.status ≢ statuses.StoreFault) × IsTrue (K.steady result.keeper) }
     ensures causes { Causes
         (incoming (S.tells input.old) (S.stream input.old) (S.faults input.old) (S.reads input.old))
         (incoming (S.tells input.new) (S.stream input.new) (S.faults input.new) (S.reads input.new))
@@ -128,7 +129,7 @@ fn replay_stored<P: Keepers, S: Source, O: Sink>(
     stores: &mut P,
 ) -> RunStatus
     requires { IsTrue (P.home stores.old) }
-    ensures does { Replays conf (Some path.now) (stores_at (P.stored stores.old) (P.faults stores.old)) (stores_at (P.stored stores.new) (P.faults stores.new))
+    ensures does { Replays conf (Some path.now) (stores_at (P.stored stores.old) (P.faults stores.old) (P.steady stores.old)) (stores_at (P.stored stores.new) (P.faults stores.new) (P.steady stores.new))
         (incoming (S.tells input.old) (S.stream input.old) (S.faults input.old) (S.reads input.old))
         (incoming (S.tells input.new) (S.stream input.new) (S.faults input.new) (S.reads input.new))
         (outgoing (O.tells out.old) (O.written out.old) (O.faults out.old) (O.sure out.old))
@@ -137,6 +138,7 @@ fn replay_stored<P: Keepers, S: Source, O: Sink>(
     ensures home { IsTrue (P.home stores.new) }
     ensures later { P.faults stores.old ≤ P.faults stores.new }
     ensures store_cause { result ≡ statuses.StoreFault → Rose (P.faults stores.old) (P.faults stores.new) }
+    ensures store_steady { IsTrue (P.steady stores.old) → (result ≢ statuses.StoreFault) × IsTrue (P.steady stores.new) }
     ensures causes { Causes
         (incoming (S.tells input.old) (S.stream input.old) (S.faults input.old) (S.reads input.old))
         (incoming (S.tells input.new) (S.stream input.new) (S.faults input.new) (S.reads input.new))
@@ -168,7 +170,7 @@ pub fn replay<P: Keepers, S: Source, O: Sink>(
     stores: &mut P,
 ) -> RunStatus
     requires { IsTrue (P.home stores.old) }
-    ensures does { Replays conf (option_map (λ path. path.now) store.entry) (stores_at (P.stored stores.old) (P.faults stores.old)) (stores_at (P.stored stores.new) (P.faults stores.new))
+    ensures does { Replays conf (option_map (λ path. path.now) store.entry) (stores_at (P.stored stores.old) (P.faults stores.old) (P.steady stores.old)) (stores_at (P.stored stores.new) (P.faults stores.new) (P.steady stores.new))
         (incoming (S.tells input.old) (S.stream input.old) (S.faults input.old) (S.reads input.old))
         (incoming (S.tells input.new) (S.stream input.new) (S.faults input.new) (S.reads input.new))
         (outgoing (O.tells out.old) (O.written out.old) (O.faults out.old) (O.sure out.old))
@@ -177,6 +179,7 @@ pub fn replay<P: Keepers, S: Source, O: Sink>(
     ensures home { IsTrue (P.home stores.new) }
     ensures later { P.faults stores.old ≤ P.faults stores.new }
     ensures store_cause { result ≡ statuses.StoreFault → Rose (P.faults stores.old) (P.faults stores.new) }
+    ensures store_steady { IsTrue (P.steady stores.old) → (result ≢ statuses.StoreFault) × IsTrue (P.steady stores.new) }
     ensures elsewhere { store.entry ≡ None → stores.new ≡ stores.old }
     ensures causes { Causes
         (incoming (S.tells input.old) (S.stream input.old) (S.faults input.old) (S.reads input.old))
