@@ -1,5 +1,5 @@
 -- What the fields of segments say of what contracts see.
-use Rattle.std.proofs.Common.{◌≡◌, ℕ, ◌+◌, ◌*◌, ◌<◌, ◌≤◌, ◌∙◌, List, [], ◌++◌, length, slice_index, slice_get, Some, refl, arith, sym, ap, subst, length-append}
+use Rattle.std.proofs.Common.{◌≡◌, ℕ, ◌+◌, ◌*◌, ◌<◌, ◌≤◌, ◌∙◌, List, [], ◌++◌, length, slice_index, slice_get, Some, refl, arith, sym, ap, subst, length-append, ◌%◌, ◌==◌, if◌then◌else◌, zero-add}
 use Rattle.std.proofs.lemmas.Bool.{cond-true, cond-false, eq-eqb, ne_eqb}
 use Rattle.gj_base.specs.declared.item.Item.{Item}
 use Rattle.gj_base.specs.declared.kind.Kind.{Kind}
@@ -9,8 +9,9 @@ use Rattle.gj_base.specs.declared.side.Side.TheVariants.{User, Post}
 use Rattle.gj_base.specs.Ends.{ends}
 use Rattle.gj_directory.specs.Directories.{ids_of}
 use Rattle.gj_window.specs.declared.segments.Segments.TheInside.{Inside}
-use Rattle.gj_window.specs.Segments.{Segmented, seen_of, items_of, names_on, going}
-use Rattle.gj_window.proofs.PartLemmas.{ends-append, parts_count}
+use Rattle.gj_window.specs.Segments.{Segmented, seen_of, items_of, names_on, going, any_of, pooled_in}
+use Rattle.gj_window.proofs.NumberLemmas.{rest_is}
+use Rattle.gj_window.proofs.PartLemmas.{parts_count}
 
 names_seen : (s : Inside) (side : Side) → ids_of s.directory side ≡ names_on (seen_of s) side
 names_seen s User = refl
@@ -73,3 +74,12 @@ none_goes w below = cond-false _ _ _ (ne_eqb (length (items_of w)) (w.conf.capac
 
 pub one_goes : (w : Segmented) → length (items_of w) ≡ w.conf.capacity * w.conf.segments → going w ≡ w.conf.capacity
 one_goes w full = cond-true _ _ _ (eq-eqb (length (items_of w)) (w.conf.capacity * w.conf.segments) full)
+
+-- once all that is full is laid out, a newest segment that has begun is the only one in pool form
+pub one_pooled : (s : Segmented) → s.older ≡ [] → length s.newest < s.conf.capacity → length s.full % s.conf.capacity ≡ 0
+    → pooled_in s ≡ (if length (items_of s) % s.conf.capacity == 0 then 0 else 1)
+one_pooled s none short whole =
+    let n : length (items_of s) ≡ length s.full + length s.newest = omega (arith, length-append s.full (s.older ++ s.newest), length-append s.older s.newest, ap length none) in
+    let rest : length (items_of s) % s.conf.capacity ≡ length s.newest = ap (λ (k : ℕ). k % s.conf.capacity) n ∙ rest_is s.conf.capacity (length s.full) (length s.newest) short whole in
+    ap (λ (l : List Item). any_of l + any_of s.newest) none
+    ∙ (zero-add (any_of s.newest) ∙ ap (λ (k : ℕ). if k == 0 then 0 else 1) (sym rest))

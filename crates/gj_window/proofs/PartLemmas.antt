@@ -70,4 +70,4 @@ dropped f1 o1 n1 f0 o0 n0 left k is long same newest =
     ∙ (sym (drop-append-le k f1 (o1 ++ n1) long)
     ∙ ap (drop k) (sym (append_assoc f1 o1 n1)
     ∙ (ap (λ (l : List Item). l ++ n1) same
-    ∙ (append_assoc f0 o0 n0 ∙ ap (λ (l : List Item). f0 ++ (o0 ++ l)) newest))))
+    ∙ (append_assoc f0 o0 n1 ∙ ap (λ (l : List Item). f0 ++ (o0 ++ l)) newest))))

@@ -18,7 +18,6 @@ moves first s is =
     let aligned = is.aligned in
     let low = is.configuration.capacity_low in
     let n : first + length (items_of s) + 1 - 1 ≡ first + length (items_of s) = omega arith in
-    let c : ℕ = s.conf.capacity in
     elim (cases_lt (length (items_of s)) (s.conf.capacity * s.conf.segments)) [
       | inl below ↦
           let stays = base_stays s.conf.capacity s.conf.segments first (length (items_of s)) aligned below in
@@ -27,8 +26,9 @@ moves first s is =
       | inr past ↦
           let full : length (items_of s) ≡ s.conf.capacity * s.conf.segments = omega (arith, few, past) in
           let next = base_next s.conf.capacity s.conf.segments first (omega arith) aligned in
-          let one = one_goes s full in
-          rw (n, full) (omega (arith, next, one))
+          let at : s.conf.capacity * (((first + length (items_of s) + 1 - 1) / s.conf.capacity + 1) - s.conf.segments) ≡ first + s.conf.capacity =
+          ap (λ (m : ℕ). s.conf.capacity * ((m / s.conf.capacity + 1) - s.conf.segments)) (n ∙ ap (λ (k : ℕ). first + k) full) ∙ next in
+          ap (λ (b : ℕ). b - first) at ∙ ((let e : first + s.conf.capacity - first ≡ s.conf.capacity = omega arith in e) ∙ sym (one_goes s full))
     ]
 
 pub same_shown : (first : ℕ) (t s : Segmented) → t.conf ≡ s.conf → items_of t ≡ items_of s → shown_from first t ≡ shown_from first s

@@ -132,20 +132,33 @@ impl Segments {
         }
     }
 
+    /// The vertex across that the word picks among the ends of the vertex with this number and this identifier.
+    #[inline]
+    fn pick_at(&self, side: Side, v: u32, id: u64, mask: Mask, word: u64) -> Option<u64>
+        requires vertex { v < length (names_on self.now side) }
+        requires named { slice_index (names_on self.now side) v ≡ id }
+        ensures exact { result ≡ end_picked (ends (items_of self.now) side id mask) word }
+        ensures back { IfSome result (λ end. 0 < length (ends (items_of self.now) (other_side side) end mask)) }
+    {
+        let (full, pooled) = self.degrees(side, v, id, mask);
+        let degree = u64::from(full + pooled);
+        if degree == 0 {
+            return None;
+        }
+        let i = pick(word, degree);
+        let (end, _kind) = self.end_at(side, v, id, mask, full, i as u32);
+        Some(end)
+    }
+
     /// The vertex across that the word picks among its ends under the mask, found by one lookup.
     #[inline]
     pub fn pick_end(&self, side: Side, id: u64, mask: Mask, word: u64) -> Option<u64>
         ensures exact { result ≡ end_picked (ends (items_of self.now) side id mask) word }
         ensures back { IfSome result (λ end. 0 < length (ends (items_of self.now) (other_side side) end mask)) }
     {
-        let v = self.directory.find(side, id)?;
-        let (full, pooled) = self.degrees(side, v, id, mask);
-        let degree = u64::from(full + pooled);
-        if degree == 0 {
-            return None;
+        match self.directory.find(side, id) {
+            Some(v) => self.pick_at(side, v, id, mask, word),
+            None => None,
         }
-        let i = pick(word, degree) as u32;
-        let (end, _kind) = self.end_at(side, v, id, mask, full, i);
-        Some(end)
     }
 }
