@@ -7,6 +7,8 @@
 
 mod reading;
 mod segments;
+#[cfg(test)]
+mod tests;
 mod turning;
 mod window;
 
