@@ -28,58 +28,52 @@ fn kind_of(rt: &impl Abort, i: u64) -> Kind {
     Kind::from_number(i % 5).expect(rt, "there are five")
 }
 
-/// So many interactions more, and then a compaction or none: the segments in pool form and in contiguous form.
-type Turn = (u64, bool, u32, u32);
-
-/// Of three segments.
-const COMPACTED: [Turn; 7] = [
-    (16, false, 1, 0),
-    (0, true, 0, 1),
-    (1, false, 1, 1),
-    (16, false, 2, 1),
-    (0, true, 1, 2),
-    (15, true, 0, 3),
-    (1, false, 1, 2),
-];
-
-/// Of three segments.
-const FILLED: [Turn; 4] = [
-    (17, false, 2, 0),
-    (15, false, 1, 1),
-    (16, false, 1, 2),
-    (1, false, 2, 1),
-];
-
-/// Of one segment.
-const ALONE: [Turn; 4] = [
-    (16, false, 1, 0),
-    (1, true, 1, 0),
-    (15, true, 0, 1),
-    (1, false, 1, 0),
-];
-
-fn takes_turns(rt: &impl Abort, window: &mut Window, turns: &[Turn]) {
-    for (more, compacts, pooled, contiguous) in turns {
-        for i in 0..*more {
-            add(rt, window, i, 7, Kind::Click, 0);
-        }
-        if *compacts {
-            window.compact();
-        }
-        assert_eq!(rt; window.forms(), (*pooled, *contiguous));
+/// So many interactions more leave these forms.
+fn added(rt: &impl Abort, window: &mut Window, more: u64, forms: (u32, u32)) {
+    for i in 0..more {
+        add(rt, window, i, 7, Kind::Click, 0);
     }
+    assert_eq!(rt; window.forms(), forms, "at {}", window.length());
+}
+
+/// A compaction leaves these forms.
+fn compacted(rt: &impl Abort, window: &mut Window, forms: (u32, u32)) {
+    window.compact();
+    assert_eq!(rt; window.forms(), forms, "at {}", window.length());
 }
 
 #[test]
-fn a_full_segment_is_laid_out_by_a_compaction_or_by_the_next_full_one(
-    rt: HostRuntime,
-) -> Result<(), Fail> {
+fn a_full_segment_is_laid_out_by_a_compaction(rt: HostRuntime) -> Result<(), Fail> {
     let mut window = empty(&rt, rt.alloc(), 16, 3)?;
-    takes_turns(&rt, &mut window, &COMPACTED);
+    added(&rt, &mut window, 16, (1, 0));
+    compacted(&rt, &mut window, (0, 1));
+    added(&rt, &mut window, 1, (1, 1));
+    added(&rt, &mut window, 16, (2, 1));
+    compacted(&rt, &mut window, (1, 2));
+    added(&rt, &mut window, 15, (1, 2));
+    compacted(&rt, &mut window, (0, 3));
+    added(&rt, &mut window, 1, (1, 2));
+    Ok(())
+}
+
+#[test]
+fn a_full_segment_is_laid_out_when_the_next_one_is_full(rt: HostRuntime) -> Result<(), Fail> {
     let mut window = empty(&rt, rt.alloc(), 16, 3)?;
-    takes_turns(&rt, &mut window, &FILLED);
+    added(&rt, &mut window, 17, (2, 0));
+    added(&rt, &mut window, 15, (1, 1));
+    added(&rt, &mut window, 16, (1, 2));
+    added(&rt, &mut window, 1, (2, 1));
+    Ok(())
+}
+
+#[test]
+fn a_window_of_one_segment_drops_it_in_either_form(rt: HostRuntime) -> Result<(), Fail> {
     let mut window = empty(&rt, rt.alloc(), 16, 1)?;
-    takes_turns(&rt, &mut window, &ALONE);
+    added(&rt, &mut window, 16, (1, 0));
+    added(&rt, &mut window, 1, (1, 0));
+    added(&rt, &mut window, 15, (1, 0));
+    compacted(&rt, &mut window, (0, 1));
+    added(&rt, &mut window, 1, (1, 0));
     Ok(())
 }
 
