@@ -126,7 +126,7 @@ few_users items seeds mask =
 
 -- the start
 
-vertices_same : (side : List ℕ) (v : ℕ) → stands_in (vertices side) v ≡ stands_in side v
+pub vertices_same : (side : List ℕ) (v : ℕ) → stands_in (vertices side) v ≡ stands_in side v
 vertices_same side v = same_case (stands_in (vertices side) v) refl
   where
     not_none : (c : Bool) → stands_in side v ≡ c → stands_in (vertices side) v ≡ true → true ≡ c

@@ -112,7 +112,7 @@ fn units_of(
 }
 
 /// The units of so many users at the start.
-fn started(alloc: Global, n: usize) -> Result<Vec<u64>, Memory>
+pub fn started(alloc: Global, n: usize) -> Result<Vec<u64>, Memory>
     ensures len { IfOk result (λ v. length v.items ≡ n) }
     ensures exact { IfOk result (λ v. v.items ≡ replicate n 1048576) }
 {
