@@ -2,17 +2,19 @@
 use Rattle.std.proofs.Common.{◌≡◌, ℕ, zero, suc, ◌+◌, ◌<◌, ◌≤◌, ◌∙◌, ◌++◌, ◌||◌, Bool, true, false, cond, nat_eq, List, [], ◌∷◌, length, fold, take, get_or, sum, sum_by, ap, sym, refl, arith}
 use Rattle.std.proofs.lemmas.Bool.Decides.{nat_tests}
 use mathlib.Core.Path.{fun_ext}
+use Rattle.gj_base.specs.declared.item.Item.{Item}
+use Rattle.gj_base.specs.declared.mask.Mask.{Mask}
 use Rattle.gj_base.specs.Tally.{is_tally, number_at, with_number}
 use Rattle.gj_base.proofs.TallyLemmas.{is_tally-with_number, number_at-with_number, same_pairs}
-use Rattle.gj_subgraph.specs.Masses.{stands_in, count_of, arrived, starting, vertices, with_mass}
+use Rattle.gj_subgraph.specs.Masses.{stands_in, count_of, arrived, edges_of, half_step, posts_of, spread, starting, users_of, vertices, with_mass}
 use Rattle.gj_subgraph.specs.Numbers.{ArePlaced, units_in}
 use Rattle.gj_subgraph.specs.Regrouped.{AreRelaid, HaveSameEdges}
 use Rattle.gj_subgraph.proofs.CountLemmas.{Every, Covers, every_weaker, eqb_same, count_stands, stands_self, vertices_once, vertices_stand}
 use Rattle.gj_subgraph.proofs.LawLemmas.{arrived_sum}
 use Rattle.gj_subgraph.proofs.NumberLemmas.{Distinct, placed_push, stands_at, vertices_distinct, with_there}
-use Rattle.gj_subgraph.proofs.MassLemmas.{vertices_same}
+use Rattle.gj_subgraph.proofs.MassLemmas.{few_from, spread_none, spread_one, users_stand, vertices_same}
 use Rattle.gj_subgraph.proofs.StepLemmas.{arrived_none, find_at, head_absent, rest_distinct, units_at, units_none, units_sum}
-use Rattle.gj_subgraph.proofs.RegroupLemmas.{counted_stands, same_count, same_far_count, uncounted}
+use Rattle.gj_subgraph.proofs.RegroupLemmas.{counted_stands, half_step_same, same_count, same_far_count, uncounted}
 
 -- members by counts
 
@@ -155,3 +157,34 @@ turned from_side from units to_side to places out e f same placed l m is =
     let members = names_same from_side from to_side to e f same in
     let long = m ∙ placed.same_len in
     (renumber_units from units to places out df dt placed l long is members, renumber_sum from units to places out df dt placed l long is members)
+
+-- one half step over the same edges in another order
+pub one_step : (n : ℕ) (users posts near far : List ℕ) → n ≡ 1 → HaveSameEdges users posts near far
+    → spread 1 users posts (starting users) ≡ spread n near far (starting near)
+one_step n users posts near far e same =
+    spread_one 1 0 users posts (starting users) refl ∙ spread_none 0 posts users (half_step users posts (starting users)) refl
+    ∙ half_step_same users posts near far (starting users) same ∙ ap (λ f. half_step near far f) (same_start users posts near far same)
+    ∙ sym (spread_none 0 far near (half_step near far (starting near)) refl) ∙ sym (spread_one n 0 near far (starting near) e)
+
+every_standing : (P : ℕ → Type 0) (xs : List ℕ) → Every P xs → (v : ℕ) → stands_in xs v ≡ true → P v
+every_standing P [] h v e = absurd (let bad : false ≡ true = e in cc)
+every_standing P (x ∷ xs) h v e = stand_case (nat_eq x v) refl e (every_standing P xs h.1 v)
+  where
+    stand_case : (b : Bool) → nat_eq x v ≡ b → (b || stands_in xs v) ≡ true → (stands_in xs v ≡ true → P v) → P v
+    stand_case true f g go = rw (eqb_same x v f) at h.0
+    stand_case false f g go = go g
+
+-- there are no more users of the edges than seeds
+pub few_listed : (items : List Item) (seeds : List ℕ) (mask : Mask) (near far : List ℕ)
+    → HaveSameEdges near far (users_of (edges_of items seeds mask)) (posts_of (edges_of items seeds mask)) → length (vertices near) ≤ length seeds
+few_listed items seeds mask near far same =
+    let users = users_of (edges_of items seeds mask) in
+    let posts = posts_of (edges_of items seeds mask) in
+    few_from (vertices near) seeds (vertices_distinct near)
+    (every_weaker (λ v. stands_in near v ≡ true) (λ v. stands_in seeds v ≡ true)
+    (λ v e. every_standing (λ v. stands_in seeds v ≡ true) users (users_stand items seeds mask) v (sym (stands_counted near users v (same_count near far users posts v same)) ∙ e))
+    (vertices near) (vertices_stand near))
+
+pub same_vertices : (near far near' far' : List ℕ) → HaveSameEdges near far near' far' → (v : ℕ) → stands_in (vertices far) v ≡ stands_in (vertices far') v
+same_vertices near far near' far' same v =
+    vertices_same far v ∙ stands_counted far far' v (same_far_count near far near' far' v same) ∙ sym (vertices_same far' v)
