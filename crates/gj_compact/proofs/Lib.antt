@@ -5,4 +5,5 @@ pub mod LaneLemmas
 pub mod NoteLemmas
 pub mod OpenLemmas
 pub mod TurnLemmas
+pub mod SpanLemmas
 pub mod SumLemmas
