@@ -21,7 +21,7 @@ AllSince mask ats = (i : ℕ) → i < length ats → mask.not_before ≤ get_or 
 abbrev pub AllBefore : Mask → List ℕ → Type 0
 AllBefore mask ats = (i : ℕ) → i < length ats → get_or ats i 0 < mask.not_before
 
-lets_since : (mask : Mask) (v : ℕ) (kind : Kind) (at : ℕ) → mask.not_before ≤ at → lets_through mask (record { vertex = v; kind = kind; at = at }) ≡ has_kind mask kind
+pub lets_since : (mask : Mask) (v : ℕ) (kind : Kind) (at : ℕ) → mask.not_before ≤ at → lets_through mask (record { vertex = v; kind = kind; at = at }) ≡ has_kind mask kind
 lets_since mask v kind at since =
     let passes = le-leb mask.not_before at since in
     elim (cases_Bool (has_kind mask kind)) [ inl h ↦ rw (h, passes) refl | inr h ↦ rw h refl ]
@@ -82,10 +82,10 @@ pub count_since : (mask : Mask) (vs : List ℕ) (ks : List Kind) (ats : List ℕ
     → Bounds span ats from to → mask.not_before ≤ span.least → count_by (lets_through mask) (take (to - from) (drop from cells)) + count_by (has_kind mask) (take from ks) ≡ count_by (has_kind mask) (take to ks)
 count_since mask vs ks ats cells from to span columns order bounds since =
     let part = ap (count_by (lets_through mask)) (part-joined vs ks ats cells from (to - from) columns.view)
-        ∙ since-joined mask (take (to - from) (drop from vs)) (take (to - from) (drop from ks)) (take (to - from) (drop from ats))
-        (part_long ks vs from (to - from) columns.kinds) (part_long ats vs from (to - from) columns.moments)
-        (λ (i : ℕ) (h : i < length (take (to - from) (drop from ats))).
-          (let at = part_at ats from to i h in omega (arith, at.0, (bounds (from + i) (omega arith) at.1).0))) in
+    ∙ since-joined mask (take (to - from) (drop from vs)) (take (to - from) (drop from ks)) (take (to - from) (drop from ats))
+    (part_long ks vs from (to - from) columns.kinds) (part_long ats vs from (to - from) columns.moments)
+    (λ (i : ℕ) (h : i < length (take (to - from) (drop from ats))).
+    (let at = part_at ats from to i h in omega (arith, at.0, (bounds (from + i) (omega arith) at.1).0))) in
     omega (arith, part, count_split (has_kind mask) ks from to order)
 
 pub count_before : (mask : Mask) (vs : List ℕ) (ks : List Kind) (ats : List ℕ) (cells : List End) (from to : ℕ) (span : Span) → AreColumns vs ks ats cells
@@ -95,7 +95,7 @@ count_before mask vs ks ats cells from to span columns bounds before =
     ∙ before-joined mask (take (to - from) (drop from vs)) (take (to - from) (drop from ks)) (take (to - from) (drop from ats))
     (part_long ks vs from (to - from) columns.kinds) (part_long ats vs from (to - from) columns.moments)
     (λ (i : ℕ) (h : i < length (take (to - from) (drop from ats))).
-      (let at = part_at ats from to i h in omega (arith, at.0, (bounds (from + i) (omega arith) at.1).1)))
+    (let at = part_at ats from to i h in omega (arith, at.0, (bounds (from + i) (omega arith) at.1).1)))
 
 -- the span of the block bounds a part of it
 pub span_part : (spans : List Span) (ats : List ℕ) (from to : ℕ) (span : Span) → AreSpans spans ats → from / 64 < length spans → span ≡ get_or spans (from / 64) span

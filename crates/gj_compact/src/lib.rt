@@ -15,6 +15,7 @@ mod spans;
 mod sums;
 #[cfg(test)]
 mod tests;
+mod totals;
 mod turns;
 mod view;
 
