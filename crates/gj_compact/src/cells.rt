@@ -117,8 +117,36 @@ impl Cells {
         self.sealed = true;
     }
 
-    /// How many of the ends from one place up to another the mask lets through: by blocks, where the cells are sealed.
+    /// How many of the ends from one place up to another the mask lets through: by blocks, where these are many and the cells
+    /// are sealed.
     pub fn count(&self, from: usize, to: usize, mask: Mask) -> usize
+        requires order { from ≤ to }
+        requires inside { to ≤ length self.now }
+        ensures exact { result ≡ count_by (lets_through mask) (take (to - from) (drop from self.now)) }
+        ensures in_range { result ≤ to - from }
+    {
+        if to - from < 64 {
+            return self.scan_count(from, to, mask);
+        }
+        self.count_long(from, to, mask)
+    }
+
+    /// One of the ends from one place up to another that the mask lets through, by its index among them: by blocks, where
+    /// these are many and the cells are sealed.
+    pub fn nth(&self, from: usize, to: usize, mask: Mask, i: usize) -> End
+        requires order { from ≤ to }
+        requires inside { to ≤ length self.now }
+        requires index { i < count_by (lets_through mask) (take (to - from) (drop from self.now)) }
+        ensures { slice_get (filter (lets_through mask) (take (to - from) (drop from self.now))) i ≡ Some result }
+    {
+        if to - from < 64 {
+            return self.scan_nth(from, to, mask, i);
+        }
+        self.nth_long(from, to, mask, i)
+    }
+
+    /// How many of the ends the mask lets through: by blocks, where the cells are sealed.
+    fn count_long(&self, from: usize, to: usize, mask: Mask) -> usize
         requires order { from ≤ to }
         requires inside { to ≤ length self.now }
         ensures exact { result ≡ count_by (lets_through mask) (take (to - from) (drop from self.now)) }
@@ -134,9 +162,8 @@ impl Cells {
         self.scan_count(from, to, mask)
     }
 
-    /// One of the ends from one place up to another that the mask lets through, by its index among them: from a block on
-    /// that is found by its counts, where the cells are sealed.
-    pub fn nth(&self, from: usize, to: usize, mask: Mask, i: usize) -> End
+    /// One of the ends that the mask lets through: from a block on that is found by its counts, where the cells are sealed.
+    fn nth_long(&self, from: usize, to: usize, mask: Mask, i: usize) -> End
         requires order { from ≤ to }
         requires inside { to ≤ length self.now }
         requires index { i < count_by (lets_through mask) (take (to - from) (drop from self.now)) }
