@@ -314,6 +314,9 @@ impl Cells {
         ensures before { take to self.new ≡ take to self.old }
         ensures long { length self.new ≡ length self.old }
     {
+        if len == 0 {
+            return;
+        }
         copy_part(&mut self.vertices, to, &cells.vertices, from, len);
         copy_part(&mut self.kinds, to, &cells.kinds, from, len);
         copy_part(&mut self.moments, to, &cells.moments, from, len);
