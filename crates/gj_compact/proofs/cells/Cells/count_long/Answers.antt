@@ -7,7 +7,7 @@ use Rattle.gj_compact.specs.declared.edge.End.{End}
 use Rattle.gj_compact.specs.Blocks.{lets_through}
 use Rattle.gj_compact.proofs.CellLemmas.{length-joined}
 use Rattle.gj_compact.proofs.SumLemmas.{cells_before, count_split}
-use Rattle.gj_compact.proofs.cells.Cells.count.Goals as goal
+use Rattle.gj_compact.proofs.cells.Cells.count_long.Goals as goal
 
 pub before-requires-clause-inside : goal.before-requires-clause-inside
 before-requires-clause-inside c =
