@@ -1,5 +1,5 @@
 -- A new identifier at the end of the list, and in the slots.
-use Rattle.std.proofs.Common.{◌≡◌, ◌≢◌, ℕ, zero, suc, ◌+◌, ◌-◌, ◌*◌, ◌^◌, ◌<◌, ◌≤◌, inl, inr, List, [], ◌∷◌, ◌++◌, length, get_or, take, set, replicate, Some, None, arith, sym, refl, subst, ◌∙◌, ap, length-append}
+use Rattle.std.proofs.Common.{◌≡◌, ℕ, suc, ◌+◌, ◌*◌, ◌^◌, ◌<◌, ◌≤◌, inl, inr, List, [], ◌∷◌, ◌++◌, length, get_or, take, set, Some, None, arith, sym, subst, ◌∙◌, length-append}
 use Rattle.std.proofs.lemmas.Bool.{cases_lt}
 use Rattle.std.proofs.lemmas.List.{take_more, get_or-take, length-take-le}
 use Rattle.std.proofs.lemmas.Nat.{pow_pos}
@@ -7,8 +7,7 @@ use Rattle.std.proofs.Math.Nat.{pow-suc, pow-le-pow_right, mul-le-mul_left, mul-
 use Rattle.std.proofs.Math.Seq.{take-append_seam, get_or-append_seam}
 use Rattle.gj_base.specs.Firsts.{place_of, HasNoRepeat}
 use Rattle.gj_base.proofs.FirstLemmas.{place_of-at, place_of-Some, with_id-absent, distinct-with_id}
-use Rattle.gj_names.specs.declared.table.TheConstants.{FREE}
-use Rattle.gj_names.specs.Slots.{first_slot_of, IsTable, IsSized, IsFree, IsReserved}
+use Rattle.gj_names.specs.Slots.{first_slot_of, IsTable, IsFree, IsReserved}
 use Rattle.gj_names.proofs.Probing.{table_seated}
 
 -- an identifier that stands later is not among those before it

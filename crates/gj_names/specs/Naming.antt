@@ -1,5 +1,5 @@
 -- What `Names` show of their fields. Private to this crate: no public clause cites it.
-use Rattle.std.specs.Prelude.{◌≡◌, ◌*◌, ◌<◌, ◌≤◌, length, vec_capacity}
+use Rattle.std.specs.Prelude.{◌*◌, ◌≤◌, length, vec_capacity}
 use Rattle.gj_names.specs.declared.table.TheConstants.{LEAST_SIZE}
 use Rattle.gj_names.specs.declared.names.Names.TheInside.{Inside}
 use Rattle.gj_names.specs.Named.{Named}

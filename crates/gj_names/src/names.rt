@@ -29,8 +29,8 @@ impl Model for Names {
 }
 
 impl Names {
-    /// No names yet, with room for that many identifiers. It takes all memory that the names will use, at most 32 bytes an
-    /// identifier, and touches 64 bytes of it.
+    /// No identifiers yet, and room for that many. It takes all memory that will be used, less than 24 bytes for each, and
+    /// touches none of it but the least table.
     pub fn new(alloc: Global, room: u32) -> Result<Names, Memory>
         requires any { 1 ≤ room }
         requires fits { room ≤ 8388608 }
@@ -44,8 +44,8 @@ impl Names {
         Ok(Names { ids, room, table })
     }
 
-    /// The place of `id`, which goes last if it is new. It takes no memory. A call that doubles the table takes time in all
-    /// identifiers, which comes to a few nanoseconds for each that was put.
+    /// The place of `id`, which goes last if it is new. It takes no memory. Where more than half of the table would be in
+    /// use, the table is doubled, which takes time in all identifiers.
     #[inline]
     pub fn put(&mut self, id: u64) -> u32
         requires { place_of self.old.ids id ≡ None → length self.old.ids < self.old.room }
@@ -105,7 +105,7 @@ impl Names {
         self.room - self.ids.len() as u32
     }
 
-    /// Removes all identifiers. It takes no memory, and the same time whatever there was: the table is small again.
+    /// Removes all identifiers. It takes no memory, and the same time for many as for few: the table is the least one again.
     pub fn clear(&mut self)
         ensures empty { self.new.ids ≡ [] }
         ensures room { self.new.room ≡ self.old.room }

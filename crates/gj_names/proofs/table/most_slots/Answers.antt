@@ -1,4 +1,4 @@
-use Rattle.std.proofs.Common.{◌≡◌, ◌*◌, ◌^◌, ◌-◌, arith, refl}
+use Rattle.std.proofs.Common.{◌-◌, arith, refl}
 use Rattle.gj_names.proofs.Probing.{halved}
 use Rattle.gj_names.proofs.table.most_slots.Goals as goal
 

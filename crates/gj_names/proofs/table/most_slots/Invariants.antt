@@ -1,4 +1,4 @@
-use Rattle.std.proofs.Common.{◌≡◌, ℕ, ◌*◌, ◌^◌, ◌-◌, ◌<◌, ◌≤◌}
+use Rattle.std.proofs.Common.{◌≡◌, ℕ, ◌*◌, ◌^◌, ◌-◌, ◌≤◌}
 use Rattle.gj_names.proofs.table.most_slots.Given as goal
 
 abbrev pub invariant-loop-size : goal.invariant-loop-size

@@ -1,4 +1,4 @@
-use Rattle.std.proofs.Common.{◌≡◌, ◌+◌, ◌<◌, ◌*◌, ◌++◌, [], ◌∷◌, ℕ, List, Some, None, length, arith, ap, sym, subst, ◌∙◌, length-append}
+use Rattle.std.proofs.Common.{◌≡◌, ◌<◌, ℕ, List, Some, None, length, arith, ap, subst, ◌∙◌, length-append}
 use Rattle.gj_base.specs.Firsts.{place_of, HasNoRepeat}
 use Rattle.gj_names.specs.Named.{Named}
 use Rattle.gj_names.proofs.Seating.{grows, put_distinct, put_place}

@@ -1,7 +1,7 @@
-use Rattle.std.proofs.Common.{◌≡◌, ◌*◌, ◌-◌, ◌<◌, ◌^◌, length, subst, sym, ap, List, ℕ, replicate, arith, ◌∙◌}
+use Rattle.std.proofs.Common.{◌≡◌, ◌*◌, ◌-◌, ◌^◌, length, ap, List, ℕ, arith, ◌∙◌}
 use Rattle.std.proofs.lemmas.List.{length-replicate}
 use Rattle.gj_names.specs.declared.table.TheConstants.{FREE}
-use Rattle.gj_names.specs.Slots.{IsTable, IsSized}
+use Rattle.gj_names.specs.Slots.{IsSized}
 use Rattle.gj_names.proofs.Probing.{halved, table_empty}
 use Rattle.gj_names.proofs.table.Table.grow.Goals as goal
 

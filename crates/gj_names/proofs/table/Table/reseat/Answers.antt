@@ -1,4 +1,3 @@
-use Rattle.std.proofs.Common.{arith}
 use Rattle.gj_names.proofs.Seating.{next_seated, next_absent}
 use Rattle.gj_names.proofs.table.Table.reseat.Goals as goal
 
