@@ -14,6 +14,7 @@ pub struct Counts {
     pub tweet: u32,
 }
 
+/// Nothing counted.
 pub const NONE: Counts = Counts {
     click: 0,
     favorite: 0,

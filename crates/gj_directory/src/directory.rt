@@ -91,6 +91,7 @@ impl Directory {
     }
 
     /// How many interactions it has.
+    #[inline]
     pub fn len(&self) -> u32
         ensures exact { result ≡ length (held self.now) }
         ensures in_range { result ≤ self.now.room }
@@ -100,6 +101,7 @@ impl Directory {
     }
 
     /// How many interactions are laid out.
+    #[inline]
     pub fn full_len(&self) -> u32
         ensures exact { result ≡ length self.now.full }
         ensures in_range { result ≤ self.now.room }
@@ -142,6 +144,7 @@ impl Directory {
     }
 
     /// The number of a vertex. One that has none has no interaction.
+    #[inline]
     pub fn find(&self, side: Side, id: u64) -> Option<u32>
         ensures exact { result ≡ place_of (ids_of self.now side) id }
         ensures held { IfSome result (λ v. (v < length (ids_of self.now side)) × (slice_index (ids_of self.now side) v ≡ id)) }
@@ -152,6 +155,7 @@ impl Directory {
 
     /// How many ends the vertex has under the mask among the interactions that are laid out, and how many of all kinds and
     /// moments among the others.
+    #[inline]
     pub fn degrees(&self, side: Side, v: u32, mask: Mask) -> (u32, u32)
         requires { v < length (ids_of self.now side) }
         ensures full { result.0 ≡ length (ends self.now.full side (slice_index (ids_of self.now side) v) mask) }
@@ -164,6 +168,7 @@ impl Directory {
 
     /// One of the vertex's ends under the mask among the interactions that are laid out, by its index in order, with its
     /// kind.
+    #[inline]
     pub fn end(&self, side: Side, v: u32, mask: Mask, i: u32) -> (u64, Kind)
         requires vertex { v < length (ids_of self.now side) }
         requires index { i < length (ends self.now.full side (slice_index (ids_of self.now side) v) mask) }
@@ -175,6 +180,7 @@ impl Directory {
     }
 
     /// Puts an interaction behind the others.
+    #[inline]
     pub fn note(&mut self, item: Item)
         requires room { length (held self.old) < self.old.room }
         requires users { length self.old.users < self.old.names }
