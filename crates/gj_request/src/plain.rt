@@ -1,5 +1,6 @@
 //! Batches in the plain form, read token by token.
-ghost use Rattle.std.specs.Prelude.{◌≡◌, ◌≤◌, IfSome, Some, None, Ok, [], ◌∷◌, ◌++◌, length};
+ghost use Rattle.std.specs.Prelude.{◌≡◌, ◌+◌, ◌-◌, ◌*◌, ◌≤◌, true, IfSome, Some, None, Ok, [], ◌∷◌, ◌++◌, length};
+ghost use Rattle.std.specs.Char.{is_ascii_digit};
 ghost use Rattle.json.specs.Token as token;
 ghost use Rattle.json.specs.Lex.{tokens};
 ghost use Rattle.json.specs.Reads.{token_of};
@@ -10,8 +11,7 @@ ghost use Rattle.gj_request.specs.Requests.{asked};
 ghost use Rattle.gj_base.specs.declared.ask.Route.TheVariants.{Interactions};
 ghost use Rattle.gj_request.specs.Plain.{Spells, AddsNumber, AddsKind, AreAll, IsPlain, TakesPart, TakesItem, TakesItems, no_parts};
 
-use crate::path::read_path_id;
-use gj_base::{Item, ItemList, Kind, MAX_BATCH};
+use gj_base::{Item, ItemList, Kind, MAX_BATCH, MAX_ID};
 use json::{Reader, Scratch, Token};
 use std::alloc::Global;
 
@@ -143,20 +143,36 @@ fn with_part(parts: Parts, name: &str, value: Token<'_>) -> Option<Parts>
     ensures { IfSome result (TakesPart parts name.now (token_of value.entry)) }
 {
     match value {
-        Token::Number(text) => with_number(parts, name, spelled(text)?),
+        Token::Number(text) => with_number(parts, name, spelled(text.as_bytes())?),
         Token::String(text) => with_kind(parts, name, Kind::from_name(text)?),
         _ => None,
     }
 }
 
 /// The number that digits alone spell, where it is in range.
-#[tactic(auto, unfolding(crate::specs::Requests::path_id))]
-fn spelled(text: &str) -> Option<u64>
+fn spelled(text: &[u8]) -> Option<u64>
     ensures { IfSome result (Spells text.now) }
 {
-    match read_path_id(text) {
-        Ok(n) => Some(n),
-        Err(_) => None,
+    let mut value: u64 = 0;
+    for digit in text {
+        value = with_digit(value, *digit)?;
+    }
+    if text.is_empty() || value > MAX_ID {
+        None
+    } else {
+        Some(value)
+    }
+}
+
+/// The value with one digit more. Where it is `None` for a digit, the number is out of range.
+fn with_digit(value: u64, digit: u8) -> Option<u64>
+    ensures digit { IfSome result (λ _. is_ascii_digit digit ≡ true) }
+    ensures value { IfSome result (λ more. more ≡ 10 * value + (digit - 48)) }
+{
+    if digit.is_ascii_digit() && value <= MAX_ID / 10 {
+        Some(10 * value + u64::from(digit - b'0'))
+    } else {
+        None
     }
 }
 

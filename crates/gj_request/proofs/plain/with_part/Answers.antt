@@ -1,4 +1,4 @@
-use Rattle.std.proofs.Common.{◌∷◌, [], ap, sym}
+use Rattle.std.proofs.Common.{◌≡◌, ◌∷◌, [], ap, sym, rules}
 use Rattle.json.specs.Json.{number, string}
 use Rattle.json.specs.Reads.{token_of}
 use Rattle.gj_request.specs.Plain.{AddsNumber, AddsKind, TakesPart}
@@ -7,8 +7,9 @@ use Rattle.gj_request.proofs.plain.with_part.Goals as goal
 
 pub returns-in_ok-spelled-in-Number : goal.returns-in_ok-spelled-in-Number
 returns-in_ok-spelled-in-Number c =
+    let same : c.as_bytes.result.now ≡ c.in-Number.text.now = search rules in
     if_some _ _ (TakesPart c.args.parts c.args.name.now (token_of c.args.value))
-    (λ more adds. (number c.in-Number.text.now, ap (λ t. token_of t ∷ []) (sym c.in-Number.is), (c.in_ok-spelled-in-Number.field-0, c.in_ok-spelled-in-Number.ensures, adds)))
+    (λ more adds. (number c.in-Number.text.now, ap (λ t. token_of t ∷ []) (sym c.in-Number.is), (c.in_ok-spelled-in-Number.field-0, rw same at c.in_ok-spelled-in-Number.ensures, adds)))
     c.with_number.ensures
 
 pub returns-in_ok-from_name-in-String : goal.returns-in_ok-from_name-in-String
