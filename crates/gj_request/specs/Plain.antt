@@ -15,7 +15,7 @@ use Rattle.gj_request.specs.declared.plain.Parts.{Parts}
 abbrev pub Spells : List ℕ → ℕ → Type 0
 Spells text n = (are_digits text ≡ true) × (digits_value text ≡ n) × (n ≤ 9223372036854775807)
 
--- a name, and a part that is its own and was not there before; the others stay
+-- the part of this name, which was not there before; the others stay
 abbrev pub AddsNumber : Parts → List ℕ → ℕ → Parts → Type 0
 AddsNumber old name n new =
     ((name ≡ name_text names.User) × (old.user ≡ None) × (new ≡ record old { user = Some n }))
@@ -61,7 +61,7 @@ batch_json values = json.object (json.member (name_text names.Items) (json.array
 abbrev pub IsPlain : List Token → List Interaction → Type 0
 IsPlain tokens items = (values : json.Items) × (tokens ≡ json_tokens (batch_json values)) × ArePlain values items × (1 ≤ length items) × (length items ≤ 4096)
 
--- of the tokens `old`, the first ones are a part, and `new` the rest
+-- the token is the value of this name
 abbrev pub TakesPart : Parts → List ℕ → Token → Parts → Type 0
 TakesPart old name token new = (value : json.Json) × (json_tokens value ≡ token ∷ []) × AddsPart old name value new
 

@@ -64,15 +64,23 @@ fn parse(alloc: Global, body: &[u8]) -> Result<Value, Refusal>
 }
 
 /// A batch. What is not in the plain form is read by its tree.
-#[tactic(auto, unfolding(crate::specs::Requests::asked))]
 fn read_interactions(alloc: Global, body: &[u8]) -> Result<Ask, Refusal>
     ensures exact { Gives (asked Interactions None body.now) result }
     ensures in_range { IfOk result IsAsked }
 {
     match read_plain(alloc, body) {
         Some(items) => Ok(Ask::Items(items)),
-        None => read_batch(alloc, &parse(alloc, body)?),
+        None => read_by_tree(alloc, body),
     }
+}
+
+/// A batch in any form.
+#[tactic(auto, unfolding(crate::specs::Requests::asked))]
+pub(crate) fn read_by_tree(alloc: Global, body: &[u8]) -> Result<Ask, Refusal>
+    ensures exact { Gives (asked Interactions None body.now) result }
+    ensures in_range { IfOk result IsAsked }
+{
+    read_batch(alloc, &parse(alloc, body)?)
 }
 
 #[tactic(auto, unfolding(crate::specs::Requests::batch_of))]
