@@ -1,20 +1,16 @@
 -- Digits alone are read as their number.
-use Rattle.std.proofs.Common.{◌≡◌, ℕ, ◌+◌, ◌-◌, ◌*◌, ◌^◌, ◌<◌, ◌≤◌, Bool, true, false, nat_le, List, [], ◌∷◌, ◌++◌, length, get_or, fold, Some, refl, sym, ap, ◌∙◌, arith, append-nil, lt-ltb, ne_eqb, true≢false}
-use Rattle.std.specs.Prelude.{◌&&◌, ◌==◌, not}
+use Rattle.std.proofs.Common.{◌≡◌, ℕ, ◌+◌, ◌-◌, ◌*◌, ◌^◌, ◌<◌, true, false, List, [], ◌∷◌, ◌++◌, length, get_or, fold, Some, refl, sym, ap, ◌∙◌, arith, append-nil, lt-ltb, ne_eqb, true≢false}
+use Rattle.std.specs.Prelude.{◌==◌, not}
 use Rattle.std.specs.Char.{digit_value, is_ascii_digit}
 use Rattle.std.specs.List.{list_all}
 use Rattle.std.specs.Str.Parse as std
 use Rattle.std.proofs.lemmas.Bool.Decides.{nat_tests}
-use Rattle.std.specs.Float.Numeral.{Parts, scan_numeral, text_of, IsWellFormed}
+use Rattle.std.specs.Float.Numeral.{Parts, scan_numeral, IsWellFormed}
 use Rattle.std.proofs.lemmas.Float.Parse.{scan_numeral-text_of}
 use Rattle.serde_json.specs.Data.{unsigned}
-use Rattle.serde_json.specs.Read.{number_of, number_from}
-use Rattle.gj_request.specs.Requests.{are_digits, digits_value}
+use Rattle.serde_json.specs.Read.{number_of}
 use Rattle.gj_request.specs.Plain.{Spells}
-
-pub both : (a b : Bool) → (a && b) ≡ true → (a ≡ true) × (b ≡ true)
-both true b e = (refl, e)
-both false b e = absurd (true≢false (sym e))
+use Rattle.gj_request.proofs.SeedLemmas.{both}
 
 digit : (c : ℕ) → is_ascii_digit c ≡ true → (digit_value c < 10) × (digit_value c ≡ c - 48) × ((c ≡ 45) → ⊥)
 digit c is = grind (arith, nat_tests)

@@ -1,5 +1,5 @@
 -- A batch in the plain form is what its tree asks for.
-use Rattle.std.proofs.Common.{◌≡◌, ℕ, suc, ◌+◌, ◌≤◌, max, List, [], ◌∷◌, ◌++◌, length, Option, Some, None, Ok, unwrap_or, refl, sym, ap, subst, ◌∙◌, arith, append_assoc, append-nil, le-leb}
+use Rattle.std.proofs.Common.{◌≡◌, ℕ, suc, ◌≤◌, List, [], ◌∷◌, ◌++◌, length, Option, Some, None, Ok, unwrap_or, refl, sym, ap, subst, ◌∙◌, arith, append_assoc, append-nil, le-leb}
 use Rattle.std.specs.Prelude.{option_and_then, option_map}
 use Rattle.std.specs.Str.{IsUtf8}
 use Rattle.json.specs.Json as json
@@ -19,8 +19,7 @@ use Rattle.gj_base.specs.Kinds.{kind_name}
 use Rattle.gj_request.specs.Forms.{kind_named, number_of, kind_of, each, moment, id, kind}
 use Rattle.gj_request.specs.Names.{name_text}
 use Rattle.gj_request.specs.Tables.{field, needed, optional, object_of, item_of, add_item, items_of}
-use Rattle.gj_request.specs.Requests.{asked, batch_of, parsed}
-use Rattle.gj_request.specs.Results.{◌>>=◌}
+use Rattle.gj_request.specs.Requests.{asked, batch_of}
 use Rattle.gj_request.specs.Plain.{AreAll, Completes, no_parts, IsPlainItem, ArePlain, batch_json, IsPlain}
 use Rattle.gj_request.specs.declared.name.Name.{Name}
 use Rattle.gj_request.specs.declared.name.Name.TheVariants as names

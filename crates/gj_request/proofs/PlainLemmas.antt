@@ -1,29 +1,26 @@
 -- Tokens in the plain form are those of a JSON value that reads as their interactions.
-use Rattle.std.proofs.Common.{◌≡◌, ℕ, ◌+◌, ◌≤◌, Bool, true, false, nat_le, List, [], ◌∷◌, ◌++◌, length, Option, Some, None, Ok, unwrap_or, refl, sym, ap, subst, ◌∙◌, arith, append_assoc, append-nil, le-leb, inl, inr, true≢false, bytes_eq, Ordering, Less, Equal, Greater}
-use Rattle.std.specs.Prelude.{◌&&◌, option_and_then, option_map, map}
+use Rattle.std.proofs.Common.{◌≡◌, ℕ, ◌≤◌, Bool, true, false, List, Option, Some, None, refl, sym, ap, ◌∙◌, inl, inr, bytes_eq, Ordering, Less, Equal, Greater}
+use Rattle.std.specs.Prelude.{◌&&◌, option_map, map}
 use Rattle.std.specs.Ordering.{nat_cmp, match_ordering}
 use Rattle.std.specs.Cmp.Lexicographic.{slice_cmp}
 use Rattle.std.proofs.lemmas.Bool.{false≢true}
 use Rattle.std.proofs.lemmas.Slice.Eq.{bytes_eq-Decides}
 use Rattle.json.specs.Json as json
-use Rattle.json.specs.Token.{Token}
 use Rattle.json.specs.Tree as tree
-use Rattle.json.proofs.Printed.Trees.{value-json_tokens}
-use Rattle.serde_json.specs.Data.{Data, number, string, array, object, unsigned, Items, no_items, item, Members, no_members, member, put}
-use Rattle.serde_json.specs.Events.{items_len}
+use Rattle.serde_json.specs.Data.{Data, number, string, unsigned, Members, no_members, member, put}
 use Rattle.serde_json.specs.Find.{get_member}
-use Rattle.serde_json.specs.Read.{of_json, of_items, of_members, read, max_depth}
+use Rattle.serde_json.specs.Read.{of_json}
 use Rattle.serde_json.proofs.Views.{get_member-put, get_member-put_other}
 use Rattle.gj_base.specs.declared.kind.Kind.{Kind}
-use Rattle.gj_base.specs.Interaction.{Interaction}
 use Rattle.gj_base.specs.Kinds.{kind_name}
 use Rattle.gj_request.specs.Names.{name_text}
 use Rattle.gj_request.specs.Tables.{Row, is_known, are_known, item_rows}
-use Rattle.gj_request.specs.Plain.{Spells, AddsNumber, AddsKind, AddsPart, AreAll, Completes, no_parts, IsPlainItem, ArePlain, batch_json, IsPlain}
+use Rattle.gj_request.specs.Plain.{AddsNumber, AddsKind, AddsPart}
 use Rattle.gj_request.specs.declared.name.Name.{Name}
 use Rattle.gj_request.specs.declared.name.Name.TheVariants as names
 use Rattle.gj_request.specs.declared.plain.Parts.{Parts}
-use Rattle.gj_request.proofs.DigitsLemmas.{both, number_of-digits}
+use Rattle.gj_request.proofs.DigitsLemmas.{number_of-digits}
+use Rattle.gj_request.proofs.SeedLemmas.{both}
 
 known_by : (known : List Name) (o : Ordering) (a b c : Members) → are_known known a ≡ true → are_known known b ≡ true → are_known known c ≡ true → are_known known (match_ordering o a b c) ≡ true
 known_by known Less a b c p q r = p

@@ -1,5 +1,5 @@
 -- Tokens that are taken one after another.
-use Rattle.std.proofs.Common.{◌≡◌, ℕ, List, [], ◌∷◌, ◌++◌, Option, Some, None, IfSome, refl, sym, ap, subst, ◌∙◌, append_assoc, append-nil}
+use Rattle.std.proofs.Common.{◌≡◌, ℕ, List, [], ◌∷◌, ◌++◌, Option, Some, None, IfSome, sym, ap, subst, ◌∙◌, append_assoc, append-nil}
 use Rattle.json.specs.Json.{object, no_items, item, no_members, member}
 use Rattle.json.specs.Token.{Token, begin_object, end_object, end_array, key}
 use Rattle.json.specs.Tree.{items_tokens, members_tokens}

@@ -50,8 +50,7 @@ fn read_text(alloc: Global, text: &str) -> Option<ItemList>
     read_batch(alloc, &mut reader, MAX_BATCH.min(text.len() / SHORTEST))
 }
 
-/// The interactions of a whole batch. In one function with its caller the reader needs no place in memory.
-#[inline(always)]
+/// The interactions of a whole batch.
 fn read_batch(alloc: Global, reader: &mut Reader<'_>, room: usize) -> Option<ItemList>
     ensures { IfSome result (IsPlain reader.old) }
 {

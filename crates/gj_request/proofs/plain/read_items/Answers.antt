@@ -1,6 +1,6 @@
-use Rattle.std.proofs.Common.{◌≡◌, ◌+◌, ◌≤◌, ◌∷◌, ◌++◌, [], length, ◌∙◌, ap, arith, rules, length-append}
+use Rattle.std.proofs.Common.{◌≡◌, ◌≤◌, ◌∷◌, ◌++◌, [], length, ◌∙◌, ap, arith, rules, length-append}
 use Rattle.json.specs.Reads.{token_of}
-use Rattle.gj_request.proofs.TakenLemmas.{if_some, GoOn, more_taken, items_taken}
+use Rattle.gj_request.proofs.TakenLemmas.{if_some, more_taken, items_taken}
 use Rattle.gj_request.proofs.plain.read_items.Goals as goal
 
 pub returns-in-EndArray-clause-exact : goal.returns-in-EndArray-clause-exact

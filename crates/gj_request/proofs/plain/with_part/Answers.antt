@@ -1,7 +1,7 @@
 use Rattle.std.proofs.Common.{◌≡◌, ◌∷◌, [], ap, sym, rules}
 use Rattle.json.specs.Json.{number, string}
 use Rattle.json.specs.Reads.{token_of}
-use Rattle.gj_request.specs.Plain.{AddsNumber, AddsKind, TakesPart}
+use Rattle.gj_request.specs.Plain.{TakesPart}
 use Rattle.gj_request.proofs.TakenLemmas.{if_some}
 use Rattle.gj_request.proofs.plain.with_part.Goals as goal
 
