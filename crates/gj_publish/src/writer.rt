@@ -111,6 +111,7 @@ impl<J: Opening, C: Copies<Operation = Batch<J>>, K: Keeper + Drop> Writer<J, C,
         ensures exact { result ≡ self.now.start }
         ensures nobody { (h : History) × Begins h self.now.accepted × ByNoSeat h.entries × (result ≡ length_of h) }
         ensures opening { IfSome J.opening (λ h. Begins h self.now.accepted) }
+        ensures known { (h : History) × Begins h self.now.accepted × (self.now.start ≡ length_of h) × IfSome J.opening (λ o. o ≡ h) }
     {
         self.start
     }

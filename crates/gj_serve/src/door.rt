@@ -8,7 +8,7 @@ pub trait Door {
     /// A connection.
     type Link: Link + Send;
 
-    ghost use Rattle.std.specs.Prelude.{ℕ, ◌≡◌, ◌+◌, ◌^◌, ◌<◌, ◌≤◌, IsTrue, [], OnErr};
+    ghost use Rattle.std.specs.Prelude.{ℕ, Bool, ◌≡◌, ◌+◌, ◌^◌, ◌<◌, ◌≤◌, IsTrue, IsOk, [], OnErr};
     ghost use Rattle.gj_base.specs.Causes.{HasCause};
     ghost use Rattle.gj_serve.specs.Doors.{HandsOut};
 
@@ -24,18 +24,23 @@ pub trait Door {
     // How often a call failed.
     ghost faults: { Self → ℕ };
 
+    // Whether no call fails from here on.
+    ghost steady: { Self → Bool };
+
     /// Opens the door at the port.
     fn listen(&mut self, port: u16) -> Result<(), Failed>
         requires fresh { (handed self.old ≡ 0) × (back self.old ≡ 0) × (nones self.old ≡ 0) }
         ensures same { (handed self.new ≡ 0) × (back self.new ≡ 0) × (nones self.new ≡ 0) }
-        ensures cause { HasCause (faults self.old) (faults self.new) result };
+        ensures cause { HasCause (faults self.old) (faults self.new) result }
+        ensures steady { IsTrue (steady self.old) → IsOk result × IsTrue (steady self.new) };
 
     /// The next connection, or none where the door is closed. It may wait where the door is real.
     fn next_link(&mut self) -> Result<Option<Self::Link>, Failed>
         requires in_range { (handed self.old < 2 ^ 40) × (nones self.old < 2 ^ 40) }
         ensures handed { HandsOut Self.Link.tells Self.Link.stream Self.Link.written (handed self.old) (handed self.new) (nones self.old) (nones self.new) result }
         ensures back { back self.new ≡ back self.old }
-        ensures cause { HasCause (faults self.old) (faults self.new) result };
+        ensures cause { HasCause (faults self.old) (faults self.new) result }
+        ensures steady { IsTrue (steady self.old) → IsOk result × IsTrue (steady self.new) };
 
     /// Takes a connection back that was served.
     fn give_back(&mut self, done: Done<Self::Link>)
@@ -43,5 +48,6 @@ pub trait Door {
         requires in_range { back self.old < 2 ^ 40 }
         ensures back { back self.new ≡ back self.old + 1 }
         ensures others { (handed self.new ≡ handed self.old) × (nones self.new ≡ nones self.old) }
-        ensures later { faults self.old ≤ faults self.new };
+        ensures later { faults self.old ≤ faults self.new }
+        ensures steady { IsTrue (steady self.old) → IsTrue (steady self.new) };
 }

@@ -83,6 +83,8 @@ fn is_gone(kind: ErrorKind) -> bool {
 impl<R: Net<Listener = TcpListener, Stream = TcpStream> + Clock> Door for TcpDoor<R> {
     type Link = TcpLink;
 
+    ghost use Rattle.std.specs.Prelude.{false, IsTrue};
+
     ghost handed = { λ d. d.handed };
 
     ghost back = { λ d. d.back };
@@ -90,6 +92,8 @@ impl<R: Net<Listener = TcpListener, Stream = TcpStream> + Clock> Door for TcpDoo
     ghost nones = { λ d. d.nones };
 
     ghost faults = { λ d. d.faults };
+
+    ghost steady = { λ _. false };
 
     fn listen(&mut self, port: u16) -> Result<(), Failed> {
         match TcpListener::bind(&self.rt, SocketAddr::from((Ipv4Addr::LOCALHOST, port))) {
@@ -127,6 +131,7 @@ impl<R: Net<Listener = TcpListener, Stream = TcpStream> + Clock> Door for TcpDoo
         ensures back { self.new.back ≡ self.old.back + 1 }
         ensures others { (self.new.handed ≡ self.old.handed) × (self.new.nones ≡ self.old.nones) }
         ensures later { self.old.faults ≤ self.new.faults }
+        ensures steady { IsTrue false → IsTrue false }
     {
         drop(done.into_link());
         self.back += 1;

@@ -5,10 +5,11 @@ use std::io::{Read, Write};
 use std::net::{Shutdown, TcpStream};
 use std::time::Duration;
 
-/// How many reads of what a client still sends are made at most once its session has ended, and their size in bytes.
+/// How many reads of what a client still sends are made at most once its session has ended, and their size in bytes:
+/// together 16 MiB.
 const LAST_READS: u32 = 256;
 
-const LAST_PIECE: usize = 4096;
+const LAST_PIECE: usize = 65_536;
 
 /// How many milliseconds such a read waits at most.
 const LAST_WAIT: u64 = 100;

@@ -2,8 +2,8 @@
 use Rattle.std.proofs.Common.{◌≡◌, ℕ, ◌&&◌, Bool, true, false, List, [], ◌∷◌, length, refl, arith}
 use Rattle.std.specs.Prelude.{Some, None}
 use Rattle.clap.specs.Faults.{is_simple_and_free}
-use Rattle.gj_words.specs.Options.{replay_app, load_app}
-use Rattle.gj_words.specs.Tasks.{asked_of}
+use Rattle.gj_words.specs.Options.{replay_app, load_app, serve_app}
+use Rattle.gj_words.specs.Tasks.{asked_of, service_of}
 use Rattle.gj_words.specs.Values.{path_in}
 
 -- an empty path is refused
@@ -33,3 +33,12 @@ pub none_asked : (words : List (List ℕ)) → length words ≡ 0 → asked_of w
 unfolding asked_of
 none_asked [] e = refl
 none_asked (word ∷ words) e = absurd (omega arith)
+
+pub serve_simple : is_simple_and_free serve_app ≡ true
+unfolding serve_app
+serve_simple = refl
+
+pub none_served : (words : List (List ℕ)) → length words ≡ 0 → service_of words ≡ None
+unfolding service_of
+none_served [] e = refl
+none_served (word ∷ words) e = absurd (omega arith)

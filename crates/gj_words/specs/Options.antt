@@ -21,3 +21,8 @@ replay_app = with_rule (window_app (codes "replay")) (option (codes "store"))
 
 unfoldable pub load_app : App
 load_app = with_rule (with_rule (window_app (codes "load")) (option (codes "number"))) (option (codes "count"))
+
+unfoldable pub serve_app : App
+serve_app =
+    with_rule (with_rule (with_rule (with_rule (window_app (codes "serve")) (option (codes "store"))) (option (codes "workers")))
+    (option (codes "sessions"))) (option (codes "port"))

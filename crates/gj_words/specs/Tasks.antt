@@ -5,8 +5,9 @@ use Rattle.gj_base.specs.Configuration.{Configuration, IsConfiguration}
 use Rattle.clap.specs.Faults.{fault_of}
 use Rattle.clap.specs.Simple.{App, matches_of}
 use Rattle.clap.specs.Walk.{Row, Text, first_of, is_empty}
-use Rattle.gj_words.specs.Options.{replay_app, load_app}
+use Rattle.gj_words.specs.Options.{replay_app, load_app, serve_app}
 use Rattle.gj_words.specs.Values.{number_in, path_in}
+use Rattle.gj_words.specs.declared.task.Service.{Service}
 use Rattle.gj_words.specs.declared.task.Task.{Task}
 use Rattle.gj_words.specs.declared.task.Task.TheVariants as task
 
@@ -47,7 +48,7 @@ load_in rows =
     (number_at (codes "number") 0 18446744073709551615 1 rows)) (conf_in rows)
 
 -- what the options of a command ask for, where clap doesn't refuse the words
-abbrev pub under : App → (List Row → Option Asked) → List Text → Option Asked
+abbrev pub under : {A : Type 0} → App → (List Row → Option A) → List Text → Option A
 under app reads words = if is_empty (fault_of app words) then reads (matches_of app words) else None
 
 -- what words ask for, the command's name first
@@ -56,3 +57,43 @@ asked_of [] = None
 asked_of (name ∷ words) =
     if bytes_eq name (codes "replay") then under replay_app replay_in words
     else (if bytes_eq name (codes "load") then under load_app load_in words else None)
+
+-- serving, by so many workers and for so many connections, at a port, over a window that is kept at a path or not
+pub record Serving : Type 0 where
+  pub conf : Configuration
+  pub store : Option Text
+  pub workers : ℕ
+  pub sessions : ℕ
+  pub port : ℕ
+
+-- what a service asks for
+abbrev pub serving_by : Service → Serving
+serving_by s = record {
+  conf = record { capacity = s.capacity; segments = s.segments };
+  store = option_map (λ path. path.now) s.store;
+  workers = s.workers;
+  sessions = s.sessions;
+  port = s.port;
+}
+
+-- the numbers of a service are in their ranges
+pub record IsService (s : Service) : Type 0 where
+  pub conf : IsConfiguration s.capacity s.segments
+  pub workers : (1 ≤ s.workers) × (s.workers ≤ 16)
+  pub sessions : (1 ≤ s.sessions) × (s.sessions ≤ 1000000000)
+  pub port : (1 ≤ s.port) × (s.port ≤ 65535)
+
+-- the service that the options ask for
+abbrev pub service_in : List Row → Option Serving
+service_in rows =
+    option_and_then (λ conf. option_and_then (λ store. option_and_then (λ workers. option_and_then (λ sessions. option_map
+    (λ port. record { conf = conf; store = store; workers = workers; sessions = sessions; port = port })
+    (number_at (codes "port") 1 65535 8017 rows))
+    (number_at (codes "sessions") 1 1000000000 1000000000 rows))
+    (number_at (codes "workers") 1 16 4 rows))
+    (path_in (first_of (codes "store") rows))) (conf_in rows)
+
+-- the service that words ask for, the command's name first
+unfoldable pub service_of : List Text → Option Serving
+service_of [] = None
+service_of (name ∷ words) = if bytes_eq name (codes "serve") then under serve_app service_in words else None

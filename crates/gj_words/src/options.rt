@@ -1,7 +1,7 @@
 //! The options of each command, as `clap` reads them.
 ghost use Rattle.std.specs.Prelude.{◌≡◌, ◌≢◌, [], IfOk, IfErr, IsErrOf, true, false, map, string_bytes};
 ghost use Rattle.clap.specs.Words.{app_of, fault_of, found_of, is_simple_and_free, matches_of, rows_of, rule_of};
-ghost use Rattle.gj_words.specs.Options.{option, plain_app, window_app, replay_app, load_app};
+ghost use Rattle.gj_words.specs.Options.{option, plain_app, window_app, replay_app, load_app, serve_app};
 ghost use Rattle.gj_words.specs.declared.task.WordsError.TheVariants as why;
 
 use crate::task::WordsError;
@@ -52,4 +52,16 @@ pub fn load_command<'a>(alloc: Global) -> Result<Command<'a>, AllocError>
     window_command(alloc, "load")?
         .arg(option(alloc, "number"))?
         .arg(option(alloc, "count"))
+}
+
+/// The command that serves connections.
+#[tactic(auto, unfolding(crate::specs::Options::serve_app))]
+pub fn serve_command<'a>(alloc: Global) -> Result<Command<'a>, AllocError>
+    ensures { IfOk result (λ c. app_of c ≡ serve_app) }
+{
+    window_command(alloc, "serve")?
+        .arg(option(alloc, "store"))?
+        .arg(option(alloc, "workers"))?
+        .arg(option(alloc, "sessions"))?
+        .arg(option(alloc, "port"))
 }

@@ -26,7 +26,7 @@ fn why_of(error: &Error) -> WordsError
 }
 
 /// What `clap` finds in the arguments by a command.
-fn matches_by<'a>(
+pub(crate) fn matches_by<'a>(
     command: &mut Command<'a>,
     words: &'a [String],
 ) -> Result<ArgMatches<'a>, WordsError>
@@ -42,7 +42,12 @@ fn matches_by<'a>(
 }
 
 /// The number of an option, or its default where it isn't given.
-fn number_option(matches: &ArgMatches, name: &str, range: Range, default: u64) -> Option<u64>
+pub(crate) fn number_option(
+    matches: &ArgMatches,
+    name: &str,
+    range: Range,
+    default: u64,
+) -> Option<u64>
     requires low { range.least ≤ default }
     requires high { default ≤ range.most }
     ensures exact { result ≡ number_in range default (first_of name.now (rows_of (found_of matches.now))) }
@@ -55,7 +60,7 @@ fn number_option(matches: &ArgMatches, name: &str, range: Range, default: u64) -
 }
 
 /// The path that is given, if it isn't empty; `Some(None)` where none is given.
-fn path_option<'a>(matches: &ArgMatches<'a>) -> Option<Option<&'a str>>
+pub(crate) fn path_option<'a>(matches: &ArgMatches<'a>) -> Option<Option<&'a str>>
     ensures { option_map (λ path. option_map (λ text. text.now) path) result ≡ path_in (first_of (codes "store") (rows_of (found_of matches.now))) }
 {
     match matches.get_str("store") {
@@ -72,13 +77,13 @@ fn path_option<'a>(matches: &ArgMatches<'a>) -> Option<Option<&'a str>>
 
 /// The numbers of a window.
 #[derive(Clone, Copy)]
-struct Size {
-    capacity: u32,
-    segments: u32,
+pub(crate) struct Size {
+    pub capacity: u32,
+    pub segments: u32,
 }
 
 /// The window that the options ask for.
-fn size_option(matches: &ArgMatches) -> Option<Size>
+pub(crate) fn size_option(matches: &ArgMatches) -> Option<Size>
     ensures exact { option_map (λ size. record { capacity = size.capacity; segments = size.segments }) result ≡ conf_in (rows_of (found_of matches.now)) }
     ensures in_range { IfSome result (λ size. IsConfiguration size.capacity size.segments) }
 {

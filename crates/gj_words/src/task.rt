@@ -18,6 +18,21 @@ pub enum Task<'a> {
     },
 }
 
+/// What the arguments of `serve` ask for: to serve connections at the port of this machine, over a window that the store
+/// at this path keeps, if one is named. The capacity and the segments of the window are those of a configuration.
+#[derive(Clone, Copy, Debug)]
+pub struct Service<'a> {
+    pub capacity: u32,
+    pub segments: u32,
+    pub store: Option<&'a str>,
+    /// 1 to 16.
+    pub workers: u32,
+    /// How many connections are served, 1 to 1000000000.
+    pub sessions: u64,
+    /// 1 to 65535.
+    pub port: u16,
+}
+
 /// Why arguments ask for nothing.
 #[derive(Clone, Copy, Debug, Drop, PartialEq, Eq)]
 pub enum WordsError {

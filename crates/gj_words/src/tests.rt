@@ -1,6 +1,6 @@
 //! The forms of arguments.
 
-use crate::{Task, WordsError, read_words};
+use crate::{Service, Task, WordsError, read_service, read_words};
 use std::alloc::{AllocError, Global};
 use std::test::Fail;
 
@@ -11,6 +11,57 @@ fn words(alloc: Global, line: &str) -> Result<Vec<String>, AllocError> {
         words.push(String::from_str(alloc, word)?)?;
     }
     Ok(words)
+}
+
+/// The service that is asked for, as a line of its own.
+fn service(alloc: Global, line: &str) -> Result<String, Fail> {
+    let words = words(alloc, line)?;
+    let text = match read_service(alloc, words.as_slice()) {
+        Ok(
+            Service {
+                capacity,
+                segments,
+                store,
+                workers,
+                sessions,
+                port,
+            },
+        ) => format!(in alloc;
+            "serve {capacity} {segments} {store:?} {workers} {sessions} {port}"
+        )?,
+        Err(WordsError::Usage) => String::from_str(alloc, "usage")?,
+        Err(WordsError::Memory) => String::from_str(alloc, "memory")?,
+    };
+    Ok(text)
+}
+
+#[test]
+fn arguments_ask_for_a_service_or_nothing(rt: HostRuntime) -> Result<(), Fail> {
+    let alloc = rt.alloc();
+    for (line, asked) in [
+        ("serve", "serve 4096 4 None 4 1000000000 8017"),
+        (
+            "serve --workers 16 --sessions 1 --port 65535",
+            "serve 4096 4 None 16 1 65535",
+        ),
+        (
+            "serve --store posts.db --capacity 16 --segments 64 --port=1",
+            "serve 16 64 Some(\"posts.db\") 4 1000000000 1",
+        ),
+        ("serve --workers 0", "usage"),
+        ("serve --workers 17", "usage"),
+        ("serve --sessions 0", "usage"),
+        ("serve --sessions 1000000001", "usage"),
+        ("serve --port 0", "usage"),
+        ("serve --port 65536", "usage"),
+        ("serve --port 1 --port 1", "usage"),
+        ("serve --store=", "usage"),
+        ("serve --count 1", "usage"),
+        ("replay", "usage"),
+    ] {
+        assert_eq!(rt; service(alloc, line)?.as_str(), asked, "{line}");
+    }
+    Ok(())
 }
 
 /// What is asked for, as a line of its own.

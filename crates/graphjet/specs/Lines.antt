@@ -4,7 +4,7 @@ use Rattle.std.specs.Fmt.{decimal}
 use Rattle.gj_base.specs.declared.keeper.KeptConf.{KeptConf}
 use Rattle.gj_load.specs.declared.totals.Totals.{Totals}
 use Rattle.graphjet.specs.declared.run_status.RunStatus.{RunStatus}
-use Rattle.graphjet.specs.declared.run_status.RunStatus.TheVariants.{Done, Usage, ReadFault, WriteFault, StoreFault, Truncated, Memory, StoppedEarly, TooManyReads, ConfDiffers, KeptRow}
+use Rattle.graphjet.specs.declared.run_status.RunStatus.TheVariants.{Done, Usage, ReadFault, WriteFault, StoreFault, Truncated, Memory, DoorFault, StoppedEarly, TooManyReads, ConfDiffers, KeptRow, NoPlace}
 
 -- words and a number
 abbrev pub numbered : List ℕ → ℕ → List ℕ
@@ -32,10 +32,12 @@ line_of WriteFault = codes "write fault\n"
 line_of StoreFault = codes "store fault\n"
 line_of Truncated = codes "truncated input\n"
 line_of Memory = codes "out of memory\n"
+line_of DoorFault = codes "door fault\n"
 line_of StoppedEarly = codes "stopped early\n"
 line_of TooManyReads = codes "too many reads\n"
 line_of (ConfDiffers kept asked) = kept_line kept asked
 line_of (KeptRow row) = row_line row
+line_of NoPlace = codes "no reader place\n"
 
 -- a line of a number
 unfoldable pub number_line : List ℕ → ℕ → List ℕ

@@ -17,7 +17,7 @@ use Rattle.gj_session.specs.Streams.{Incoming, Outgoing}
 use Rattle.gj_session.specs.declared.outcome.End.{End}
 use Rattle.graphjet.specs.Statuses.{is_session, status_of_end}
 use Rattle.graphjet.specs.declared.run_status.RunStatus.{RunStatus}
-use Rattle.graphjet.specs.declared.run_status.RunStatus.TheVariants.{Done, Usage, ReadFault, WriteFault, StoreFault, Truncated, Memory, StoppedEarly, TooManyReads, ConfDiffers, KeptRow}
+use Rattle.graphjet.specs.declared.run_status.RunStatus.TheVariants.{Done, Usage, ReadFault, WriteFault, StoreFault, Truncated, Memory, DoorFault, StoppedEarly, TooManyReads, ConfDiffers, KeptRow, NoPlace}
 
 -- a run alone from the opening history to one that was left; the answers by the store's fault are at most as many as the
 -- rise of its count, and none where it is sure that no call fails
@@ -50,6 +50,8 @@ Judges refusal (KeptRow row) = refusal ≡ Some (open_error.KeptRow row)
 Judges refusal StoreFault = Unit {0}
 Judges refusal Memory = Unit {0}
 Judges refusal Usage = ⊥
+Judges refusal DoorFault = ⊥
+Judges refusal NoPlace = ⊥
 Judges refusal Done = refusal ≡ None
 Judges refusal ReadFault = refusal ≡ None
 Judges refusal WriteFault = refusal ≡ None

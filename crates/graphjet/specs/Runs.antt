@@ -8,7 +8,7 @@ use Rattle.graphjet.specs.Lines.{line_of, summary_of}
 use Rattle.graphjet.specs.Replays.{Replays, StoresAt}
 use Rattle.graphjet.specs.Statuses.{code_of}
 use Rattle.graphjet.specs.declared.run_status.RunStatus.{RunStatus}
-use Rattle.graphjet.specs.declared.run_status.RunStatus.TheVariants.{Done, Usage, ReadFault, WriteFault, StoreFault, Truncated, Memory, StoppedEarly, TooManyReads, ConfDiffers, KeptRow}
+use Rattle.graphjet.specs.declared.run_status.RunStatus.TheVariants.{Done, Usage, ReadFault, WriteFault, StoreFault, Truncated, Memory, DoorFault, StoppedEarly, TooManyReads, ConfDiffers, KeptRow, NoPlace}
 
 -- a load wrote its summary; or a proper beginning of it, where there was no room for all of it; or memory was wanting
 abbrev pub Loads : List ℕ → Outgoing → Outgoing → RunStatus → Type 0

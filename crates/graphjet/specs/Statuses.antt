@@ -5,7 +5,7 @@ use Rattle.gj_keep.specs.declared.opening.OpenError.TheVariants as open_error
 use Rattle.gj_session.specs.declared.outcome.End.{End}
 use Rattle.gj_session.specs.declared.outcome.End.TheVariants as ends
 use Rattle.graphjet.specs.declared.run_status.RunStatus.{RunStatus}
-use Rattle.graphjet.specs.declared.run_status.RunStatus.TheVariants.{Done, Usage, ReadFault, WriteFault, StoreFault, Truncated, Memory, StoppedEarly, TooManyReads, ConfDiffers, KeptRow}
+use Rattle.graphjet.specs.declared.run_status.RunStatus.TheVariants.{Done, Usage, ReadFault, WriteFault, StoreFault, Truncated, Memory, DoorFault, StoppedEarly, TooManyReads, ConfDiffers, KeptRow, NoPlace}
 
 -- the number of a status
 abbrev pub code_of : RunStatus → ℕ
@@ -16,10 +16,12 @@ code_of WriteFault = 4
 code_of StoreFault = 5
 code_of Truncated = 6
 code_of Memory = 7
+code_of DoorFault = 8
 code_of StoppedEarly = 9
 code_of TooManyReads = 10
 code_of (ConfDiffers kept asked) = 11
 code_of (KeptRow row) = 12
+code_of NoPlace = 13
 
 -- the status of a session by its end
 abbrev pub status_of_end : End → RunStatus
@@ -52,3 +54,5 @@ is_session StoreFault = false
 is_session Memory = false
 is_session (ConfDiffers kept asked) = false
 is_session (KeptRow row) = false
+is_session DoorFault = false
+is_session NoPlace = false

@@ -78,10 +78,12 @@ pub fn status_line(status: RunStatus) -> ArrayString<256>
         RunStatus::StoreFault => plain("store fault\n"),
         RunStatus::Truncated => plain("truncated input\n"),
         RunStatus::Memory => plain("out of memory\n"),
+        RunStatus::DoorFault => plain("door fault\n"),
         RunStatus::StoppedEarly => plain("stopped early\n"),
         RunStatus::TooManyReads => plain("too many reads\n"),
         RunStatus::ConfDiffers { kept, asked } => differing(kept, asked),
         RunStatus::KeptRow { row } => bad_row(row),
+        RunStatus::NoPlace => plain("no reader place\n"),
     }
 }
 

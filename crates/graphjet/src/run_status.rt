@@ -7,20 +7,22 @@ use gj_session::End;
 /// How a run ended. The number of each is the program's status.
 #[derive(Clone, Copy, Debug, PartialEq, Eq)]
 pub enum RunStatus {
-    /// 0: the whole input was answered, or the summary written.
+    /// 0: the whole input was answered, or the summary written, or all connections served and both lines written.
     Done,
     /// 2: the arguments ask for nothing that the program does.
     Usage,
     /// 3: reading the input failed.
     ReadFault,
-    /// 4: writing to the output failed.
+    /// 4: writing to the output failed. After a fault of the door that one is told.
     WriteFault,
-    /// 5: a call of the store failed before the session.
+    /// 5: a call of the store failed before the session or the workers.
     StoreFault,
     /// 6: the input ended inside a message.
     Truncated,
-    /// 7: no memory was found before the session or the summary.
+    /// 7: no memory was found before the session, the workers or the summary.
     Memory,
+    /// 8: the door could not be opened at the port, or a call of it failed.
+    DoorFault,
     /// 9: a refusal, or a message that asks for close, ended the session.
     StoppedEarly,
     /// 10: more reads were needed than are allowed.
@@ -29,6 +31,8 @@ pub enum RunStatus {
     ConfDiffers { kept: KeptConf, asked: KeptConf },
     /// 12: the row with this index is the first that is none of a history.
     KeptRow { row: u64 },
+    /// 13: no place for a reader was granted.
+    NoPlace,
 }
 
 impl RunStatus {
@@ -47,10 +51,12 @@ impl RunStatus {
             RunStatus::StoreFault => 5,
             RunStatus::Truncated => 6,
             RunStatus::Memory => 7,
+            RunStatus::DoorFault => 8,
             RunStatus::StoppedEarly => 9,
             RunStatus::TooManyReads => 10,
             RunStatus::ConfDiffers { .. } => 11,
             RunStatus::KeptRow { .. } => 12,
+            RunStatus::NoPlace => 13,
         }
     }
 }
