@@ -108,9 +108,7 @@ fn serve_bare<R: Threads + Wait + Copy + Drop + Send + Sync, D: Door + Send, O: 
         entered: _,
         keeper: _,
         door,
-    } = serve_over::<R, D, NoKeeper, Window, O>(
-        rt, alloc, conf, NoKeeper, plan, door, out, grants,
-    );
+    } = serve_over::<R, D, NoKeeper, Window, O>(rt, alloc, conf, NoKeeper, plan, door, out, grants);
     Closed { end, door }
 }
 
