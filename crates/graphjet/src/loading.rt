@@ -9,10 +9,11 @@ ghost use Rattle.graphjet.specs.declared.run_status.RunStatus.TheVariants as sta
 
 use crate::lines::summary;
 use crate::run_status::RunStatus;
-use gj_base::{Conf, Failed, IndexError, ListGraph, Sink};
+use gj_base::{Conf, Failed, IndexError, Sink};
 use gj_keep::{Local, NoKeeper};
 use gj_load::{Totals, run_load};
 use gj_session::send;
+use gj_window::Window;
 use std::alloc::Global;
 
 /// What comes of the workload. `None` is want of memory: a keeper that keeps nothing fails no call.
@@ -20,7 +21,7 @@ fn totals(alloc: Global, conf: Conf, number: u64, count: u64) -> Option<Totals>
     requires { (0 < count) × (count ≤ 1000000) }
     ensures { IfSome result (λ totals. totals ≡ totals_of conf number count) }
 {
-    let mut index = match Local::<NoKeeper, ListGraph>::open_local(alloc, conf, NoKeeper) {
+    let mut index = match Local::<NoKeeper, Window>::open_local(alloc, conf, NoKeeper) {
         Ok(index) => index,
         Err(_) => return None,
     };

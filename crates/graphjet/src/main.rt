@@ -15,6 +15,8 @@ mod run_status;
 mod store_tests;
 #[cfg(test)]
 mod tests;
+#[cfg(test)]
+mod window_tests;
 
 use crate::arguments::words_of;
 use crate::devices::{StreamSink, StreamSource};

@@ -9,10 +9,11 @@ ghost use Rattle.graphjet.specs.Statuses.{is_session};
 ghost use Rattle.graphjet.specs.declared.run_status.RunStatus.TheVariants as statuses;
 
 use crate::run_status::{RunStatus, status_of, status_of_refusal};
-use gj_base::{Conf, Grow, KeepError, Keeper, Keepers, ListGraph, Memory, Sink, Source};
+use gj_base::{Conf, Grow, KeepError, Keeper, Keepers, Memory, Sink, Source};
 use gj_http::{Framer, Routes};
 use gj_keep::{Local, NoKeeper, OpenRefused};
 use gj_session::replay_session;
+use gj_window::Window;
 use std::alloc::Global;
 
 /// The most reads of a session.
@@ -108,7 +109,7 @@ fn replay_bare<S: Source, O: Sink>(
         (outgoing (O.tells out.new) (O.written out.new) (O.faults out.new) (O.sure out.new)) (S.steady input.old) result }
     ensures room { IsTrue (O.tells out.old) → result ≡ statuses.WriteFault → O.sure out.old + length (O.written out.old) ≤ length (O.written out.new) }
 {
-    let Over { keeper: _, status } = replay_over::<NoKeeper, ListGraph, S, O>(
+    let Over { keeper: _, status } = replay_over::<NoKeeper, Window, S, O>(
         alloc, conf, NoKeeper, tools, input, out,
     );
     status
@@ -148,7 +149,7 @@ fn replay_stored<P: Keepers, S: Source, O: Sink>(
         Err(KeepError::Failed) => RunStatus::StoreFault,
         Err(KeepError::Memory) => RunStatus::Memory,
         Ok(keeper) => {
-            let Over { keeper, status } = replay_over::<P::Kept, ListGraph, S, O>(
+            let Over { keeper, status } = replay_over::<P::Kept, Window, S, O>(
                 alloc, conf, keeper, tools, input, out,
             );
             stores.take_back(keeper);
