@@ -9,7 +9,8 @@ use Rattle.gj_base.specs.declared.side.Side.TheVariants.{User, Post}
 use Rattle.gj_base.specs.Ends.{ends}
 use Rattle.gj_directory.specs.Directories.{ids_of}
 use Rattle.gj_window.specs.declared.segments.Segments.TheInside.{Inside}
-use Rattle.gj_window.specs.Segments.{Segmented, seen_of, items_of, names_on, going, any_of, pooled_in}
+use Rattle.gj_base.specs.Configuration.{IsConfiguration}
+use Rattle.gj_window.specs.Segments.{IsSegmented, Segmented, seen_of, items_of, names_on, going, any_of, pooled_in}
 use Rattle.gj_window.proofs.NumberLemmas.{rest_is}
 use Rattle.gj_window.proofs.PartLemmas.{parts_count}
 
@@ -83,3 +84,30 @@ one_pooled s none short whole =
     let rest : length (items_of s) % s.conf.capacity ≡ length s.newest = ap (λ (k : ℕ). k % s.conf.capacity) n ∙ rest_is s.conf.capacity (length s.full) (length s.newest) short whole in
     ap (λ (l : List Item). any_of l + any_of s.newest) none
     ∙ (zero-add (any_of s.newest) ∙ ap (λ (k : ℕ). if k == 0 then 0 else 1) (sym rest))
+
+-- no interaction yet
+pub none_yet : (s : Inside) → IsConfiguration s.conf.capacity s.conf.segments → s.directory.full ≡ [] → s.directory.fresh ≡ [] → s.older.items ≡ [] → s.newest.items ≡ []
+    → s.older.room ≡ s.conf.capacity → s.newest.room ≡ s.conf.capacity → s.directory.room ≡ s.conf.capacity * s.conf.segments
+    → s.directory.room + s.conf.capacity ≤ s.directory.names → s.whole ≡ 0 → IsSegmented s
+none_yet s conf full fresh older newest older_room newest_room room names whole =
+    let low = conf.capacity_low in
+    let f : length s.directory.full ≡ 0 = ap length full in
+    let o : length s.older.items ≡ 0 = ap length older in
+    let n : length s.newest.items ≡ 0 = ap length newest in
+    let w : s.conf.capacity * s.whole ≡ 0 = ap (λ (k : ℕ). s.conf.capacity * k) whole ∙ (let z : s.conf.capacity * 0 ≡ 0 = omega arith in z) in
+    let both : s.older.items ++ s.newest.items ≡ [] = ap (λ (l : List Item). l ++ s.newest.items) older ∙ newest in
+    record {
+      conf = conf;
+      tied = fresh ∙ sym both;
+      older_room = older_room;
+      newest_room = newest_room;
+      aligned = f ∙ sym w;
+      older_full = λ any. absurd (omega arith);
+      newest_few = omega arith;
+      few = omega arith;
+      within = (let le : length s.directory.full + (length s.older.items + length s.newest.items) ≤ s.conf.capacity * s.conf.segments = omega arith in le);
+      room = room;
+      names = names;
+      users = λ any. absurd (omega arith);
+      posts = λ any. absurd (omega arith);
+    }

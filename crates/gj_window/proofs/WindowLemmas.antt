@@ -3,8 +3,9 @@ use Rattle.std.proofs.Common.{◌≡◌, ◌≢◌, ℕ, ◌+◌, ◌-◌, ◌*�
 use Rattle.std.proofs.lemmas.Bool.{cases_lt}
 use Rattle.gj_base.specs.declared.item.Item.{Item}
 use Rattle.gj_base.specs.declared.history.Shown.{Shown}
-use Rattle.gj_base.specs.History.{IsWindow, base, end_of, more}
-use Rattle.gj_base.proofs.Windows.{slid, slid_is, window_few}
+use Rattle.gj_base.specs.Configuration.{Configuration, IsConfiguration}
+use Rattle.gj_base.specs.History.{IsWindow, base, end_of, more, empty_shown}
+use Rattle.gj_base.proofs.Windows.{slid, slid_is, window_few, empty_is}
 use Rattle.gj_window.specs.Segments.{Segmented, items_of, shown_from, going}
 use Rattle.gj_window.proofs.FieldLemmas.{none_goes, one_goes}
 use Rattle.gj_window.proofs.NumberLemmas.{base_next, base_stays}
@@ -61,3 +62,10 @@ added_is first went t s x is goes conf items room =
     let at : first + went ≡ first + (b - first) = ap (λ (k : ℕ). first + k) (sym gap) in
     let left : items_of t ≡ drop (b - first) (items_of s) ++ x ∷ [] = items ∙ ap (λ (k : ℕ). drop k (items_of s) ++ x ∷ []) (sym gap) in
     subst IsWindow (sym (other_conf (first + went) t s conf)) (slid_is w x b (first + went) (items_of t) is refl at left room)
+
+-- a window that has no interaction yet
+pub begun : (first : ℕ) (s : Segmented) (conf : Configuration) → s.conf ≡ conf → items_of s ≡ [] → IsConfiguration conf.capacity conf.segments → first % conf.capacity ≡ 0
+    → first < 2 ^ 48 → IsWindow (shown_from first s)
+begun first s conf e none in_range aligned room =
+    let same : shown_from first s ≡ empty_shown conf first = λ i. record { capacity = (e i).capacity; segments = (e i).segments; first = first; items = none i } in
+    subst IsWindow (sym same) (empty_is conf first in_range aligned room)

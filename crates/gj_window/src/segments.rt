@@ -42,6 +42,7 @@ impl Segments {
     pub fn new(alloc: Global, conf: Conf) -> Result<Segments, Memory>
         ensures conf { IfOk result (λ s. s.conf ≡ conf) }
         ensures empty { IfOk result (λ s. items_of s ≡ []) }
+        ensures in_range { IfOk result (λ _. IsConfiguration conf.capacity conf.segments) }
     {
         let capacity = conf.capacity();
         let room = conf.room();
