@@ -77,31 +77,47 @@ fn a_window_of_one_segment_drops_it_in_either_form(rt: HostRuntime) -> Result<()
     Ok(())
 }
 
+/// The user has so many interactions.
+fn user_has(rt: &impl Abort, window: &Window, user: u64, count: u64) {
+    assert_eq!(rt; window.count(Side::User, user, Mask::all()), count, "user {user}");
+}
+
+/// So many interactions are of the kind.
+fn kind_has(rt: &impl Abort, window: &Window, kind: Kind, total: u64) {
+    assert_eq!(rt; window.total(Mask::one(kind)), total, "{kind:?}");
+}
+
+/// The window begins and ends there.
+fn spans(rt: &impl Abort, window: &Window, base: u64, length: u64) {
+    assert_eq!(rt; window.base(), base);
+    assert_eq!(rt; window.length(), length);
+}
+
 /// The first 32 are the users 1 and 2, 16 each; the one after is user 3.
+fn fill(rt: &impl Abort, window: &mut Window) {
+    for place in 0..33u64 {
+        spans(rt, window, 0, place);
+        user_has(rt, window, 1, place.min(16));
+        let kind = kind_of(rt, place);
+        add(rt, window, place / 16 + 1, place, kind, 0);
+    }
+}
+
 #[test]
 fn a_segment_is_dropped_by_the_interaction_after_the_full_window(
     rt: HostRuntime,
 ) -> Result<(), Fail> {
-    let mut window: Window = empty(&rt, rt.alloc(), 16, 2)?;
-    for place in 0..33u64 {
-        assert_eq!(rt; (window.base(), window.length()), (0, place));
-        assert_eq!(rt; window.count(Side::User, 1, Mask::all()), place.min(16));
-        add(
-            &rt,
-            &mut window,
-            place / 16 + 1,
-            place,
-            kind_of(&rt, place),
-            0,
-        );
-    }
-    assert_eq!(rt; (window.base(), window.length()), (16, 33));
-    for (user, count) in [(1, 0), (2, 16), (3, 1)] {
-        assert_eq!(rt; window.count(Side::User, user, Mask::all()), count);
-    }
-    for (kind, total) in Kind::ALL.iter().zip([3, 4, 4, 3, 3]) {
-        assert_eq!(rt; window.total(Mask::one(*kind)), total, "{kind:?}");
-    }
+    let mut window = empty(&rt, rt.alloc(), 16, 2)?;
+    fill(&rt, &mut window);
+    spans(&rt, &window, 16, 33);
+    user_has(&rt, &window, 1, 0);
+    user_has(&rt, &window, 2, 16);
+    user_has(&rt, &window, 3, 1);
+    kind_has(&rt, &window, Kind::Click, 3);
+    kind_has(&rt, &window, Kind::Favorite, 4);
+    kind_has(&rt, &window, Kind::Retweet, 4);
+    kind_has(&rt, &window, Kind::Reply, 3);
+    kind_has(&rt, &window, Kind::Tweet, 3);
     Ok(())
 }
 
