@@ -65,5 +65,7 @@ pub trait Link {
         ensures bytes { (stream self.new ≡ stream self.old) × (written self.new ≡ written self.old) }
         ensures made { reads self.new ≡ reads self.old }
         ensures faults { (read_faults self.new ≡ read_faults self.old) × (write_faults self.new ≡ write_faults self.old) }
+        ensures steady { steady self.old → steady self.new }
+        ensures sure { sure self.new ≡ sure self.old }
     {}
 }

@@ -1,5 +1,5 @@
 -- What trims and batches make of a book.
-use Rattle.std.proofs.Common.{◌≡◌, ℕ, ◌+◌, ◌-◌, ◌^◌, ◌≤◌, ◌++◌, List, length, drop, filter, nat_le, sym, ap, ◌∙◌, subst, arith, length-append}
+use Rattle.std.proofs.Common.{Bool, ◌≡◌, ℕ, ◌+◌, ◌-◌, ◌^◌, ◌≤◌, ◌++◌, List, length, drop, filter, nat_le, sym, ap, ◌∙◌, subst, arith, length-append}
 use Rattle.std.specs.Bool.{IsTrue}
 use Rattle.std.proofs.lemmas.List.{length-map}
 use Rattle.gj_base.specs.declared.item.Item.{Item}
@@ -31,12 +31,12 @@ store_trimmed conf first n at old new is store e low done =
     })
 
 -- a trim to the base keeps what was kept
-pub keeps_trim : (conf : Configuration) (first n at : ℕ) (old new : Kept) (faults more : ℕ) (h : History) → IsConfiguration conf.capacity conf.segments
+pub keeps_trim : (conf : Configuration) (first n at : ℕ) (old new : Kept) (faults more : ℕ) (sure still : Bool) (h : History) → IsConfiguration conf.capacity conf.segments
     → (IsTrue old.tells → IsStore conf first n old) → at ≡ base conf.capacity conf.segments n → first ≤ at → new.tells ≡ old.tells
     → (IsTrue old.tells → new ≡ with_rows old (filter (λ (r : KeptItem). nat_le at r.place) old.rows))
-    → BookKeeps (record { conf = conf; first = first; length = n; kept = old; faults = faults }) h
-    → BookKeeps (record { conf = conf; first = at; length = n; kept = new; faults = more }) h
-keeps_trim conf first n at old new faults more h is store e low same done k = record {
+    → BookKeeps (record { conf = conf; first = first; length = n; kept = old; faults = faults; steady = sure }) h
+    → BookKeeps (record { conf = conf; first = at; length = n; kept = new; faults = more; steady = still }) h
+keeps_trim conf first n at old new faults more sure still h is store e low same done k = record {
   length_is = k.length_is;
   rows_are = λ tells.
       let told : IsTrue old.tells = subst IsTrue same tells in
@@ -74,12 +74,12 @@ store_longer conf first n old new items is store range room done =
     })
 
 -- a batch behind the rows keeps the longer history
-pub keeps_append : (conf : Configuration) (first n : ℕ) (old new : Kept) (faults more : ℕ) (h : History) (by : ℕ) (items : List Item)
+pub keeps_append : (conf : Configuration) (first n : ℕ) (old new : Kept) (faults more : ℕ) (sure still : Bool) (h : History) (by : ℕ) (items : List Item)
     → IsConfiguration conf.capacity conf.segments → new.tells ≡ old.tells
     → (IsTrue old.tells → new ≡ with_rows old (old.rows ++ placed n items))
-    → BookKeeps (record { conf = conf; first = first; length = n; kept = old; faults = faults }) h
-    → BookKeeps (record { conf = conf; first = first; length = n + length items; kept = new; faults = more }) (extend h (entries_by by items))
-keeps_append conf first n old new faults more h by items is same done k =
+    → BookKeeps (record { conf = conf; first = first; length = n; kept = old; faults = faults; steady = sure }) h
+    → BookKeeps (record { conf = conf; first = first; length = n + length items; kept = new; faults = more; steady = still }) (extend h (entries_by by items))
+keeps_append conf first n old new faults more sure still h by items is same done k =
     let low = is.capacity_low in
     let count : length (entries_by by items) ≡ length items = length-map items (λ (x : Item). record { item = x; by = by }) in
     record {

@@ -121,10 +121,10 @@ store_opened conf old new rows n told is suited read sound e =
     }
 
 -- the book keeps the history of the rows that were read
-pub keeps_read : (conf : Configuration) (old new : Kept) (rows : List KeptItem) (first n faults : ℕ) → IsPrepared conf old new
+pub keeps_read : (conf : Configuration) (old new : Kept) (rows : List KeptItem) (first n faults : ℕ) (steady : Bool) → IsPrepared conf old new
     → (IsTrue old.tells → rows ≡ told_rows old) → good conf rows ≡ true → first ≡ first_place rows → n ≡ first_place rows + length rows
-    → BookKeeps (record { conf = conf; first = first; length = n; kept = new; faults = faults }) (opened rows)
-keeps_read conf old new rows first n faults is read sound e at = record {
+    → BookKeeps (record { conf = conf; first = first; length = n; kept = new; faults = faults; steady = steady }) (opened rows)
+keeps_read conf old new rows first n faults steady is read sound e at = record {
   length_is = opened_length rows ∙ sym at;
   rows_are = λ tells.
       let told : IsTrue old.tells = subst IsTrue is.tells tells in
@@ -134,10 +134,10 @@ keeps_read conf old new rows first n faults is read sound e at = record {
 }
 
 -- and each history that the store kept
-pub keeps_again : (conf : Configuration) (old new : Kept) (rows : List KeptItem) (first n faults : ℕ) (h : History) → 1 ≤ conf.segments → IsPrepared conf old new
+pub keeps_again : (conf : Configuration) (old new : Kept) (rows : List KeptItem) (first n faults : ℕ) (steady : Bool) (h : History) → 1 ≤ conf.segments → IsPrepared conf old new
     → Holds conf old h → rows ≡ told_rows old → first ≡ first_place rows → n ≡ first_place rows + length rows
-    → BookKeeps (record { conf = conf; first = first; length = n; kept = new; faults = faults }) h
-keeps_again conf old new rows first n faults h some is held read e at =
+    → BookKeeps (record { conf = conf; first = first; length = n; kept = new; faults = faults; steady = steady }) h
+keeps_again conf old new rows first n faults steady h some is held read e at =
     let kept : KeepsFrom conf.capacity conf.segments held.from rows h = (let P : List KeptItem → Type 0 = λ rs. KeepsFrom conf.capacity conf.segments held.from rs h in subst P (sym read) held.rows_are) in record {
       length_is = length_kept conf.capacity conf.segments held.from rows h some kept ∙ sym at;
       rows_are = λ tells.

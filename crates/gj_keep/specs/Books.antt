@@ -39,13 +39,15 @@ pub record Holds (conf : Configuration) (kept : Kept) (h : History) : Type 0 whe
 abbrev pub Keeps : Configuration → Kept → History → Type 0
 Keeps conf kept h = IsTrue kept.tells → Holds conf kept h
 
--- a book: its configuration, the first place that is kept, the length of the history, and its keeper's meaning and faults
+-- a book: its configuration, the first place that is kept, the length of the history, its keeper's meaning and faults, and
+-- whether no call of that keeper fails from here on
 pub record BookView : Type 0 where
   pub conf : Configuration
   pub first : ℕ
   pub length : ℕ
   pub kept : Kept
   pub faults : ℕ
+  pub steady : Bool
 
 -- the book has the length of the history, and a keeper that tells its rows keeps it from the place first on
 pub record BookKeeps (b : BookView) (h : History) : Type 0 where

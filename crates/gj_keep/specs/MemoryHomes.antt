@@ -1,10 +1,11 @@
 -- What the keepers in memory know of their one keeper.
-use Rattle.std.specs.Prelude.{ℕ, Bool, IsTrue}
-use Rattle.std.specs.Option.{is_some, ForSome}
+use Rattle.std.specs.Prelude.{ℕ, Bool, true, ◌&&◌, Option, Some, None, IsTrue}
+use Rattle.std.specs.Option.{is_some}
+use Rattle.gj_keep.specs.declared.memory_keeper.MemoryKeeper.{MemoryKeeper}
 use Rattle.gj_base.specs.CallNumbers.{CallLog, is_steady}
 use Rattle.gj_base.specs.Kept.{Kept}
 use Rattle.gj_keep.specs.declared.memory_keepers.MemoryKeepers.{MemoryKeepers}
-use Rattle.gj_keep.specs.MemoryStores.{kept_by, IsSteady}
+use Rattle.gj_keep.specs.MemoryStores.{kept_by, steady_by}
 
 -- what the keeper kept as it was last at home
 abbrev pub stored_by : MemoryKeepers → Kept
@@ -25,6 +26,14 @@ faults_known s = s.faults
 abbrev pub calls_on : MemoryKeepers → CallLog
 calls_on s = s.calls
 
--- no call that is still to come fails, on it and on its keeper where that is at home
+-- whether no call on the keeper fails, where it is at home
+abbrev pub home_steady : Option MemoryKeeper → Bool
+home_steady None = true
+home_steady (Some k) = steady_by k
+
+-- whether no call that is still to come fails, on it and on its keeper where that is at home
+abbrev pub are_steady : MemoryKeepers → Bool
+are_steady s = is_steady s.calls && home_steady s.kept
+
 abbrev pub AreSteady : MemoryKeepers → Type 0
-AreSteady s = IsTrue (is_steady s.calls) × ForSome s.kept IsSteady
+AreSteady s = IsTrue (are_steady s)

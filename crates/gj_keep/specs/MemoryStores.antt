@@ -1,5 +1,5 @@
 -- What a keeper in memory keeps, and its calls.
-use Rattle.std.specs.Prelude.{◌≡◌, ◌≤◌, ◌↔◌, ℕ, IsTrue, true, false, Result, IsErrOf}
+use Rattle.std.specs.Prelude.{◌≡◌, ◌≤◌, ◌↔◌, ℕ, Bool, IsTrue, true, false, Result, IsErrOf}
 use Rattle.gj_base.specs.declared.keeper.KeepError.{KeepError}
 use Rattle.gj_base.specs.declared.keeper.KeepError.TheVariants.{Failed}
 use Rattle.gj_base.specs.CallNumbers.{CallLog, is_steady, fails_next, counted}
@@ -19,9 +19,12 @@ faults_by k = k.faults
 abbrev pub calls_by : MemoryKeeper → CallLog
 calls_by k = k.calls
 
--- no call that is still to come is one that fails
+-- whether no call that is still to come is one that fails
+abbrev pub steady_by : MemoryKeeper → Bool
+steady_by k = is_steady k.calls
+
 abbrev pub IsSteady : MemoryKeeper → Type 0
-IsSteady k = IsTrue (is_steady k.calls)
+IsSteady k = IsTrue (steady_by k)
 
 -- a call that can fail was counted: it failed exactly where its number is in the list
 pub record IsCall {T : Type 0} (old new : MemoryKeeper) (result : Result T KeepError) : Type 0 where

@@ -1,7 +1,8 @@
 //! A book of what is accepted, which a keeper keeps.
 ghost use Rattle.std.specs.Prelude.{◌≡◌, ◌⊎◌, ℕ, ◌+◌, ◌++◌, ◌^◌, ◌<◌, ◌≤◌, All, length, OnOk, OnErr, IfOk, IfErr, IsErr, IsErrOf, IsTrue};
 ghost use Rattle.gj_base.specs.declared.history.History.{History};
-ghost use Rattle.gj_base.specs.declared.index.IndexError.TheVariants.{Full};
+ghost use Rattle.gj_base.specs.declared.index.IndexError.TheVariants.{Full, Store};
+ghost use Rattle.gj_base.specs.declared.keeper.KeepError.TheVariants.{Failed};
 ghost use Rattle.gj_base.specs.Causes.{faults_after, faults_posted};
 ghost use Rattle.gj_base.specs.History.{extend, entries_by};
 ghost use Rattle.gj_base.specs.Kept.{with_rows, placed};
@@ -24,7 +25,7 @@ impl<K: Keeper> Model for Book<K> {
 
     ghost Value = { BookView };
 
-    ghost view = { λ b. record { conf = b.conf; first = b.first; length = b.length; kept = K.kept b.keeper; faults = K.faults b.keeper } };
+    ghost view = { λ b. record { conf = b.conf; first = b.first; length = b.length; kept = K.kept b.keeper; faults = K.faults b.keeper; steady = K.steady b.keeper } };
 
     ghost invariant = { λ b. IsBook b.conf b.first b.length (K.kept b.keeper) };
 }
@@ -47,7 +48,7 @@ impl<K: Keeper> Book<K> {
 
     /// The keeper, which keeps what the book kept. It may be opened again, whatever call failed last.
     pub fn into_keeper(self) -> K
-        ensures same { (K.kept result ≡ self.kept) × (K.faults result ≡ self.faults) }
+        ensures same { (K.kept result ≡ self.kept) × (K.faults result ≡ self.faults) × (K.steady result ≡ self.steady) }
         ensures keeps { (h : History) → BookKeeps self h → Keeps self.conf (K.kept result) h }
     {
         let Book {
@@ -68,6 +69,7 @@ impl<K: Keeper> Book<K> {
         ensures kind { (self.new.kept.tells ≡ self.old.kept.tells) × (self.new.kept.bare ≡ self.old.kept.bare) }
         ensures count { self.new.faults ≡ faults_after self.old.faults result }
         ensures later { self.old.faults ≤ self.new.faults }
+        ensures steady { IsTrue self.old.steady → (IsErrOf result Failed → ⊥) × IsTrue self.new.steady }
     {
         let at = self.conf.base(self.length);
         if at <= self.first {
@@ -91,6 +93,7 @@ impl<K: Keeper> Book<K> {
         ensures kind { (self.new.kept.tells ≡ self.old.kept.tells) × (self.new.kept.bare ≡ self.old.kept.bare) }
         ensures count { self.new.faults ≡ faults_after self.old.faults result }
         ensures later { self.old.faults ≤ self.new.faults }
+        ensures steady { IsTrue self.old.steady → (IsErrOf result Failed → ⊥) × IsTrue self.new.steady }
     {
         let _room = self.conf.room();
         numbers_in(items);
@@ -112,6 +115,7 @@ impl<K: Keeper> Book<K> {
         ensures room { 2 ^ 48 < self.old.length + length items.now → IsErrOf result (Full self.old.length) }
         ensures count { self.new.faults ≡ faults_posted self.old.faults result }
         ensures later { self.old.faults ≤ self.new.faults }
+        ensures steady { IsTrue self.old.steady → (IsErrOf result Store → ⊥) × IsTrue self.new.steady }
         ensures same { self.new.conf ≡ self.old.conf }
 
         // What the store holds: the rows that a window may need, and behind them the batch.
@@ -160,6 +164,7 @@ fn refused(why: KeepError) -> Result<Receipt, IndexError>
     ensures err { IsErr result }
     ensures count { (n : ℕ) → faults_posted n result ≡ faults_after {T = Unit {0}} n (Err why) }
     ensures full { IfErr result (λ e. (n : ℕ) → e ≡ Full n → ⊥) }
+    ensures store { IsErrOf result Store → why ≡ Failed }
 {
     match why {
         KeepError::Failed => Err(IndexError::Store),

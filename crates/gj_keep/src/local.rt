@@ -21,7 +21,7 @@ impl<K: Keeper, W: Grow + Drop> Local<K, W> {
     ghost use Rattle.gj_base.specs.declared.history.History.{History};
     ghost use Rattle.gj_base.specs.declared.keeper.KeptConf.{KeptConf};
     ghost use Rattle.gj_base.specs.declared.keeper.KeptItem.{KeptItem};
-    ghost use Rattle.gj_keep.specs.declared.opening.OpenError.TheVariants.{ConfDiffers, Place};
+    ghost use Rattle.gj_keep.specs.declared.opening.OpenError.TheVariants.{ConfDiffers, Place, Store};
     ghost use Rattle.gj_keep.specs.Books.{Keeps, asked, suits, told_rows};
     ghost use Rattle.gj_keep.specs.Locals.{LocalKeeps};
     ghost use Rattle.gj_keep.specs.Openings.{IsLeft, IsPrepared, MayRefuse, due, faults_at};
@@ -40,6 +40,8 @@ impl<K: Keeper, W: Grow + Drop> Local<K, W> {
         ensures bare_refused { IsTrue (K.kept keeper).bare → IfErr result (λ r. MayRefuse None r.why) }
         ensures place { IfErr result (λ r. r.why ≡ Place → ⊥) }
         ensures count { MatchResult result (λ l. l.book.faults ≡ K.faults keeper) (λ r. K.faults r.keeper ≡ faults_at r.why (K.faults keeper)) }
+
+        ensures steady { IsTrue (K.steady keeper) → MatchResult result (λ l. IsTrue l.book.steady) (λ r. (r.why ≡ Store → ⊥) × IsTrue (K.steady r.keeper)) }
 
         ensures err { IfErr result (λ r. IsLeft conf (K.kept keeper) (K.kept r.keeper)) }
         ensures differs { IfErr result (λ r. (old now : KeptConf) → r.why ≡ ConfDiffers old now
@@ -66,7 +68,7 @@ impl<K: Keeper, W: Grow + Drop> Local<K, W> {
 
     /// The keeper, which keeps what the index kept. It may be opened again, whatever call failed last.
     pub fn into_keeper(self) -> K
-        ensures same { (K.kept result ≡ self.book.kept) × (K.faults result ≡ self.book.faults) }
+        ensures same { (K.kept result ≡ self.book.kept) × (K.faults result ≡ self.book.faults) × (K.steady result ≡ self.book.steady) }
         ensures keeps { (h : History) → LocalKeeps (W.shown self.graph) self.book h → Keeps self.book.conf (K.kept result) h }
     {
         let Local { book, graph: _ } = self;
@@ -114,6 +116,8 @@ impl<K: Keeper, W: Grow> Index for Local<K, W> {
     ghost viewed = { λ l. W.shown l.graph };
 
     ghost faults = { λ l. l.book.faults };
+
+    ghost steady = { λ l. l.book.steady };
 
     ghost keeps = { λ l h. LocalKeeps (W.shown l.graph) l.book h };
 

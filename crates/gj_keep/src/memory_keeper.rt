@@ -137,7 +137,7 @@ impl Keeper for MemoryKeeper {
     ghost use Rattle.std.proofs.lemmas.Bool.{false≢true};
     ghost use Rattle.gj_base.specs.declared.keeper.KeepError.TheVariants.{Memory};
     ghost use Rattle.gj_base.specs.Kept.{with_rows, with_conf, migrated, placed, next_place};
-    ghost use Rattle.gj_keep.specs.MemoryStores.{kept_by, faults_by, IsCall, IsSteady};
+    ghost use Rattle.gj_keep.specs.MemoryStores.{kept_by, faults_by, steady_by, IsCall};
 
     ghost kept = { kept_by };
 
@@ -145,7 +145,7 @@ impl Keeper for MemoryKeeper {
 
     ghost faults = { faults_by };
 
-    ghost steady = { IsSteady };
+    ghost steady = { steady_by };
 
     fn conf(&mut self) -> Result<Option<KeptConf>, KeepError>
         ensures same { kept_by self.new ≡ kept_by self.old }

@@ -55,7 +55,7 @@ impl Keepers for MemoryKeepers {
     ghost use Rattle.gj_base.specs.Causes.{faults_after};
     ghost use Rattle.gj_base.specs.CallNumbers.{counted, fails_next};
     ghost use Rattle.gj_keep.specs.MemoryStores.{kept_by, faults_by, IsSteady};
-    ghost use Rattle.gj_keep.specs.MemoryHomes.{stored_by, is_home, own_faults, faults_known, calls_on, AreSteady};
+    ghost use Rattle.gj_keep.specs.MemoryHomes.{stored_by, is_home, own_faults, faults_known, calls_on, are_steady, AreSteady};
 
     ghost stored = { stored_by };
 
@@ -65,7 +65,7 @@ impl Keepers for MemoryKeepers {
 
     ghost faults = { faults_known };
 
-    ghost steady = { AreSteady };
+    ghost steady = { are_steady };
 
     fn keeper_at(&mut self, _alloc: Global, _path: &str) -> Result<MemoryKeeper, KeepError>
         requires { IsTrue (is_home self.old) }

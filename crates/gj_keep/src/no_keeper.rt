@@ -16,7 +16,7 @@ impl Keeper for NoKeeper {
 
     ghost faults = { λ _. 0 };
 
-    ghost steady = { λ _. Unit {0} };
+    ghost steady = { λ _. true };
 
     fn conf(&mut self) -> Result<Option<KeptConf>, KeepError> {
         Ok(None)
@@ -73,7 +73,7 @@ impl Keepers for NoKeepers {
 
     ghost faults = { λ _. 0 };
 
-    ghost steady = { λ _. Unit {0} };
+    ghost steady = { λ _. true };
 
     fn keeper_at(&mut self, _alloc: Global, _path: &str) -> Result<NoKeeper, KeepError> {
         self.home = false;

@@ -2,6 +2,7 @@
 ghost use Rattle.std.specs.Prelude.{◌≡◌, ℕ, ◌<◌, ◌≤◌, [], length, slice_index_or, Option, false, IfOk, IfErr, OnOk, OnErr, IsTrue, MatchResult};
 ghost use Rattle.gj_base.specs.declared.history.History.{History};
 ghost use Rattle.gj_base.specs.declared.keeper.KeptConf.{KeptConf};
+ghost use Rattle.gj_base.specs.declared.keeper.KeepError.TheVariants.{Failed};
 ghost use Rattle.gj_base.specs.Causes.{Rose, faults_after};
 ghost use Rattle.gj_base.specs.History.{StandsFor};
 ghost use Rattle.gj_keep.specs.declared.opening.OpenError.{OpenError};
@@ -54,6 +55,7 @@ fn asked_by(conf: Conf) -> KeptConf
 fn refusal(why: KeepError) -> OpenError
     ensures count { (n : ℕ) → faults_at result n ≡ faults_after {T = Unit {0}} n (Err why) }
     ensures may { (refusal : Option OpenError) → MayRefuse refusal result }
+    ensures store { result ≡ Store → why ≡ Failed }
 {
     match why {
         KeepError::Failed => OpenError::Store,
@@ -82,6 +84,7 @@ fn prepare<K: Keeper>(keeper: &mut K, conf: Conf) -> Result<(), OpenError>
     ensures others { IfErr result (λ why. (why ≡ Place → ⊥) × ((row : ℕ) → why ≡ KeptRow row → ⊥)) }
     ensures count { MatchResult result (λ _. K.faults keeper.new ≡ K.faults keeper.old) (λ why. K.faults keeper.new ≡ faults_at why (K.faults keeper.old)) }
     ensures later { K.faults keeper.old ≤ K.faults keeper.new }
+    ensures steady { IsTrue (K.steady keeper.old) → IfErr result (λ why. why ≡ Store → ⊥) × IsTrue (K.steady keeper.new) }
 {
     let asked = asked_by(conf);
     let done = match keeper.conf() {
@@ -115,6 +118,7 @@ fn read_rows<K: Keeper>(
     ensures place { IfErr result (λ why. why ≡ Place → ⊥) }
     ensures count { MatchResult result (λ _. K.faults keeper.new ≡ K.faults keeper.old) (λ why. K.faults keeper.new ≡ faults_at why (K.faults keeper.old)) }
     ensures later { K.faults keeper.old ≤ K.faults keeper.new }
+    ensures steady { IsTrue (K.steady keeper.old) → IfErr result (λ why. why ≡ Store → ⊥) × IsTrue (K.steady keeper.new) }
 {
     if let Err(why) = prepare(keeper, conf) {
         return Err(why);
@@ -157,6 +161,7 @@ impl<K: Keeper> Book<K> {
         ensures bare_refused { IsTrue (K.kept keeper).bare → IfErr result (λ r. MayRefuse None r.why) }
         ensures place { IfErr result (λ r. r.why ≡ Place → ⊥) }
         ensures count { MatchResult result (λ r. r.0.faults ≡ K.faults keeper) (λ r. K.faults r.keeper ≡ faults_at r.why (K.faults keeper)) }
+        ensures steady { IsTrue (K.steady keeper) → MatchResult result (λ r. IsTrue r.0.steady) (λ r. (r.why ≡ Store → ⊥) × IsTrue (K.steady r.keeper)) }
         ensures cause { IfErr result (λ r. (K.faults keeper ≤ K.faults r.keeper) × (r.why ≡ Store → Rose (K.faults keeper) (K.faults r.keeper))) }
 
         // What a refusal leaves.

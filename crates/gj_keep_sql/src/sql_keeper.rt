@@ -79,7 +79,7 @@ impl<F: Alter> Keeper for SqlKeeper<F> {
 
     ghost faults = { λ keeper. keeper };
 
-    ghost steady = { λ _. ⊥ };
+    ghost steady = { λ _. false };
 
     fn conf(&mut self) -> Result<Option<KeptConf>, KeepError> {
         counted(kept_conf(&mut self.connection), &mut self.faults)

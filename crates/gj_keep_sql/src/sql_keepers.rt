@@ -66,7 +66,7 @@ impl<'rt> Keepers for SqlKeepers<'rt> {
 
     ghost faults = { faults_of };
 
-    ghost steady = { λ _. ⊥ };
+    ghost steady = { λ _. false };
 
     fn keeper_at(
         &mut self,

@@ -9,7 +9,7 @@ use Rattle.gj_keep.specs.Books.{BookView, BookKeeps, KeepsFrom}
 use Rattle.gj_publish.specs.Posted.{BatchView}
 
 -- the writer: the length at opening, what is published, what is accepted, whether there is room for one more batch, and
--- its keeper's meaning and faults
+-- its keeper's meaning, faults, and whether no call of it fails from here on
 pub record WriterView : Type 0 where
   pub start : ℕ
   pub published : History
@@ -17,6 +17,7 @@ pub record WriterView : Type 0 where
   pub ready : Bool
   pub kept : Kept
   pub faults : ℕ
+  pub steady : Bool
 
 -- the rows of a keeper that tells them are those of the history, from a place on that is in no way behind its window
 abbrev pub RowsAre : Configuration → Kept → History → Type 0

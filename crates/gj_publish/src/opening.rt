@@ -184,6 +184,7 @@ pub fn open_index<J: Opening, K: Keeper + Drop, W: Grow + Drop, R: Wait + Drop>(
     ensures refused { IsTrue (K.kept keeper).tells → IfErr result (λ r. r.why ≢ Place → MayRefuse (due conf (K.kept keeper)) r.why) }
     ensures bare_refused { IsTrue (K.kept keeper).bare → IfErr result (λ r. r.why ≢ Place → MayRefuse None r.why) }
     ensures count { MatchResult result (λ r. r.0.faults ≡ K.faults keeper) (λ r. K.faults r.keeper ≡ faults_at r.why (K.faults keeper)) }
+    ensures steady { IsTrue (K.steady keeper) → MatchResult result (λ r. IsTrue r.0.steady) (λ r. (r.why ≡ Store → ⊥) × IsTrue (K.steady r.keeper)) }
     ensures cause { IfErr result (λ r. (K.faults keeper ≤ K.faults r.keeper) × (r.why ≡ Store → Rose (K.faults keeper) (K.faults r.keeper))) }
 
     // What a refusal leaves: the keeper, as it was or prepared.

@@ -45,7 +45,7 @@ impl<J: Opening, C: Copies<Operation = Batch<J>>, K: Keeper + Drop> Model for Wr
 
     ghost Value = { WriterView };
 
-    ghost view = { λ s. record { start = s.start; published = s.shown; accepted = s.scribe.history; ready = s.scribe.ready; kept = s.book.kept; faults = s.book.faults } };
+    ghost view = { λ s. record { start = s.start; published = s.shown; accepted = s.scribe.history; ready = s.scribe.ready; kept = s.book.kept; faults = s.book.faults; steady = s.book.steady } };
 
     ghost invariant = { λ s. C.quiet s.copies × ((h : _) (b : _) → C.applied h b ≡ posted h b) × (C.shown s.copies ≡ s.shown) × IsOwed s.shown s.scribe.history s.owed × IsGrown J.opening J.conf s.start s.ledger.total s.book s.scribe.opening s.scribe.history × IsCounted J.places s.counted s.scribe.history };
 }
@@ -70,7 +70,7 @@ impl<J: Opening, C: Copies<Operation = Batch<J>>, K: Keeper + Drop> Writer<J, C,
         requires conf { book.conf ≡ J.conf }
         requires opening { IfSome J.opening (λ h. h ≡ opened rows.now.value.items) }
         requires counted { counted ≡ replicate J.places 0 }
-        ensures { result ≡ record { start = length_of scribe.history; published = scribe.history; accepted = scribe.history; ready = scribe.ready; kept = book.kept; faults = book.faults } }
+        ensures { result ≡ record { start = length_of scribe.history; published = scribe.history; accepted = scribe.history; ready = scribe.ready; kept = book.kept; faults = book.faults; steady = book.steady } }
     {
         let _ = rows;
         let shown = scribe.front();
@@ -128,7 +128,7 @@ impl<J: Opening, C: Copies<Operation = Batch<J>>, K: Keeper + Drop> Writer<J, C,
     pub fn confirm<W: Grow + Drop>(&mut self, seat: &Seat<W, J>) -> Result<(), Memory>
         ensures ok { OnOk result (Begins seat.now.front self.new.accepted) }
         ensures kept { RowsAre J.conf self.new.kept self.new.accepted }
-        ensures others { (self.new.accepted ≡ self.old.accepted) × (self.new.published ≡ self.old.published) × (self.new.start ≡ self.old.start) × (self.new.kept ≡ self.old.kept) × (self.new.faults ≡ self.old.faults) }
+        ensures others { (self.new.accepted ≡ self.old.accepted) × (self.new.published ≡ self.old.published) × (self.new.start ≡ self.old.start) × (self.new.kept ≡ self.old.kept) × (self.new.faults ≡ self.old.faults) × (self.new.steady ≡ self.old.steady) }
     {
         let ready = self.reserve();
         let _ = self.length();
@@ -168,7 +168,7 @@ impl<J: Opening, C: Copies<Operation = Batch<J>>, K: Keeper + Drop> Writer<J, C,
     /// copies go, and from then on no seat gets a look. It may wait for looks that began before.
     pub fn into_keeper(self) -> K
         ensures keeps { Keeps J.conf (K.kept result) self.accepted }
-        ensures same { (K.kept result ≡ self.kept) × (K.faults result ≡ self.faults) }
+        ensures same { (K.kept result ≡ self.kept) × (K.faults result ≡ self.faults) × (K.steady result ≡ self.steady) }
     {
         let Writer {
             alloc: _,
@@ -186,7 +186,7 @@ impl<J: Opening, C: Copies<Operation = Batch<J>>, K: Keeper + Drop> Writer<J, C,
 
     // Makes room in the log for one more batch. False where there is none.
     fn reserve(&mut self) -> bool
-        ensures same { (self.new.accepted ≡ self.old.accepted) × (self.new.published ≡ self.old.published) × (self.new.start ≡ self.old.start) × (self.new.kept ≡ self.old.kept) × (self.new.faults ≡ self.old.faults) }
+        ensures same { (self.new.accepted ≡ self.old.accepted) × (self.new.published ≡ self.old.published) × (self.new.start ≡ self.old.start) × (self.new.kept ≡ self.old.kept) × (self.new.faults ≡ self.old.faults) × (self.new.steady ≡ self.old.steady) }
         ensures ready { self.new.ready ≡ result }
     {
         self.scribe.reserve()
@@ -194,7 +194,7 @@ impl<J: Opening, C: Copies<Operation = Batch<J>>, K: Keeper + Drop> Writer<J, C,
 
     // Shows what is owed. False where no memory is found.
     fn show_owed(&mut self) -> bool
-        ensures same { (self.new.accepted ≡ self.old.accepted) × (self.new.ready ≡ self.old.ready) × (self.new.start ≡ self.old.start) × (self.new.kept ≡ self.old.kept) × (self.new.faults ≡ self.old.faults) }
+        ensures same { (self.new.accepted ≡ self.old.accepted) × (self.new.ready ≡ self.old.ready) × (self.new.start ≡ self.old.start) × (self.new.kept ≡ self.old.kept) × (self.new.faults ≡ self.old.faults) × (self.new.steady ≡ self.old.steady) }
         ensures shown { MatchBool result (self.new.published ≡ self.old.accepted) (self.new.published ≡ self.old.published) }
     {
         match self.owed.take() {

@@ -1,5 +1,5 @@
 //! Accepting a batch: it is kept, then it enters the history, and then it is shown.
-ghost use Rattle.std.specs.Prelude.{◌≡◌, ◌≢◌, ◌⊎◌, ◌+◌, ◌<◌, ◌≤◌, ◌^◌, true, ℕ, length, IfOk, IfErr, OnOk, OnErr, IsErrOf};
+ghost use Rattle.std.specs.Prelude.{◌≡◌, ◌≢◌, ◌⊎◌, ◌+◌, ◌<◌, ◌≤◌, ◌^◌, true, ℕ, length, IfOk, IfErr, OnOk, OnErr, IsErrOf, IsTrue};
 ghost use Rattle.gj_base.specs.declared.index.IndexError.TheVariants.{Store as StoreFault};
 ghost use Rattle.gj_base.specs.Causes.{Rose};
 ghost use Rattle.gj_base.specs.History.{Begins, end_of, entries_by, extend, length_of};
@@ -44,6 +44,7 @@ impl<J: Opening, C: Copies<Operation = Batch<J>>, K: Keeper + Drop> Writer<J, C,
         ensures short { IfErr result (λ e. (seen shown : ℕ) → e ≡ NoLook (Short seen shown) → ((seen ≡ length_of seat.old.front) ⊎ (seen ≡ length_of self.old.published)) × (shown < seen) × ((x : W) × (end_of (W.shown x) ≡ shown))) }
         ensures apart { IfErr result (λ why. (seen shown posted counted : _) → why ≡ Apart seen shown posted counted → (self.new ≡ self.old) × (seen ≡ length_of seat.new.front) × (shown ≡ length_of self.old.published) × (posted ≡ seat.old.posted) × (counted ≡ by_seat seat.old.number self.old.accepted) × Begins self.old.published seat.new.front × ((shown < seen) ⊎ (posted ≢ counted))) }
         ensures cause { IsErrOf result Store → Rose self.old.faults self.new.faults }
+        ensures steady { IsTrue self.old.steady → (IsErrOf result Store → ⊥) × IsTrue self.new.steady }
 
         // Where it goes on after these tests, they held.
         ensures together { OnMet result (seat.old.posted ≡ by_seat seat.old.number self.old.accepted) }
@@ -120,6 +121,7 @@ impl<J: Opening, C: Copies<Operation = Batch<J>>, K: Keeper + Drop> Writer<J, C,
         ensures same { (self.new.published ≡ self.old.published) × (self.new.start ≡ self.old.start) }
         ensures err { OnErr result ((self.new.accepted ≡ self.old.accepted) × (seat.new ≡ seat.old)) }
         ensures cause { IsErrOf result StoreFault → Rose self.old.faults self.new.faults }
+        ensures steady { IsTrue self.old.steady → (IsErrOf result StoreFault → ⊥) × IsTrue self.new.steady }
         ensures later { self.old.faults ≤ self.new.faults }
     {
         self.book.keep(items.as_slice())?;

@@ -7,7 +7,7 @@ use Rattle.gj_keep.proofs.book.Book.append.Goals as goal
 pub returns-clause-ok : goal.returns-clause-ok
 returns-clause-ok g c h by k =
     let done = c.in_ok-append.ensures in
-    keeps_append _ _ _ _ _ _ _ h by c.args.items.now c.room-room.ensures.conf done.kind.0 done.ok (subst (λ v. BookKeeps v h) (sym c.self.view_is) k)
+    keeps_append _ _ _ _ _ _ _ _ _ h by c.args.items.now c.room-room.ensures.conf done.kind.0 done.ok (subst (λ v. BookKeeps v h) (sym c.self.view_is) k)
 
 pub invariant_of-self-2 : goal.invariant_of-self-2
 invariant_of-self-2 g c =

@@ -29,8 +29,8 @@ returns-clause-keeps g c =
     let first : c.first_of-first.result ≡ first_place rows = c.first_of-first.ensures ∙ ap first_place value in
     let count : c.len.result ≡ length rows = c.len.ensures ∙ (sym c.deref-in-Ok-graphs_of.ensures.len ∙ ap length value) in
     let read : c.of.result.value.items ≡ rows = ap (λ v. v.items) c.of.ensures in
-    let P : List KeptItem → Type 0 = λ rs. BookKeeps (record { conf = c.args.conf; first = c.first_of-first.result; length = c.first_of-first.result + c.len.result; kept = g.K.Keeper.kept c.read_rows.new.keeper; faults = g.K.Keeper.faults c.read_rows.new.keeper }) (opened rs) in
-    subst P (sym read) (keeps_read c.args.conf _ _ rows _ _ _ c.in-Ok.ensures.ok c.in-Ok.ensures.told c.in-Ok.ensures.good first (omega arith))
+    let P : List KeptItem → Type 0 = λ rs. BookKeeps (record { conf = c.args.conf; first = c.first_of-first.result; length = c.first_of-first.result + c.len.result; kept = g.K.Keeper.kept c.read_rows.new.keeper; faults = g.K.Keeper.faults c.read_rows.new.keeper; steady = g.K.Keeper.steady c.read_rows.new.keeper }) (opened rs) in
+    subst P (sym read) (keeps_read c.args.conf _ _ rows _ _ _ _ c.in-Ok.ensures.ok c.in-Ok.ensures.told c.in-Ok.ensures.good first (omega arith))
 
 pub returns-clause-again : goal.returns-clause-again
 returns-clause-again g c h tells keeps =
@@ -39,7 +39,7 @@ returns-clause-again g c h tells keeps =
     let first : c.first_of-first.result ≡ first_place rows = c.first_of-first.ensures ∙ ap first_place value in
     let count : c.len.result ≡ length rows = c.len.ensures ∙ (sym c.deref-in-Ok-graphs_of.ensures.len ∙ ap length value) in
     let some = c.room-room.ensures.conf.segments_low in (
-      keeps_again c.args.conf _ _ rows _ _ _ h some c.in-Ok.ensures.ok (keeps tells) (c.in-Ok.ensures.told tells) first (omega arith),
+      keeps_again c.args.conf _ _ rows _ _ _ _ h some c.in-Ok.ensures.ok (keeps tells) (c.in-Ok.ensures.told tells) first (omega arith),
       (λ i d low.
           let shows : Shows (g.W.Graph.shown (get_or c.in-Ok-graphs_of.graphs.items i d)) c.args.conf (opened rows) =
           subst (λ rs. Shows (g.W.Graph.shown (get_or c.in-Ok-graphs_of.graphs.items i d)) c.args.conf (opened rs)) c.deref.ensures.value (c.in-Ok-graphs_of.ensures.each i d low) in

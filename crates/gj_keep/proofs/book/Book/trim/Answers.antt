@@ -22,7 +22,7 @@ invariant_of-self-2 g c =
 pub returns-clause-keeps : goal.returns-clause-keeps
 returns-clause-keeps g c h k =
     let done = c.in_ok-trim.ensures in
-    keeps_trim _ _ _ _ _ _ _ _ h c.base-at.ensures.in_range c.self.invariant.store c.base-at.ensures.exact (omega arith) done.kind.0 done.ok (subst (λ v. BookKeeps v h) (sym c.self.view_is) k)
+    keeps_trim _ _ _ _ _ _ _ _ _ _ h c.base-at.ensures.in_range c.self.invariant.store c.base-at.ensures.exact (omega arith) done.kind.0 done.ok (subst (λ v. BookKeeps v h) (sym c.self.view_is) k)
 
 pub returns-clause-ok : goal.returns-clause-ok
 returns-clause-ok g c =
