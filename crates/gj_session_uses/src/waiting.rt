@@ -54,14 +54,20 @@ impl Link for Waiting {
 
     fn read(&mut self, into: &mut [u8]) -> Result<usize, Failed> {
         self.reads = self.reads.saturating_add(1);
-        if self.came() == self.due
-            && let Ok(n) = self.link.read(into)
-        {
-            self.due = self.due.saturating_add(self.reply);
-            return Ok(n);
+        if self.came() != self.due {
+            self.read_faults = self.read_faults.saturating_add(1);
+            return Err(Failed);
         }
-        self.read_faults = self.read_faults.saturating_add(1);
-        Err(Failed)
+        match self.link.read(into) {
+            Ok(n) => {
+                self.due = self.due.saturating_add(self.reply);
+                Ok(n)
+            }
+            Err(Failed) => {
+                self.read_faults = self.read_faults.saturating_add(1);
+                Err(Failed)
+            }
+        }
     }
 
     fn write(&mut self, piece: &[u8]) -> Result<usize, Failed> {
