@@ -18,6 +18,7 @@ use Rattle.gj_base.proofs.NumberedEnds.{numbered-below, named-numbered}
 use Rattle.gj_compact.specs.declared.edge.Edge.{Edge}
 use Rattle.gj_compact.specs.declared.edge.End.{End}
 use Rattle.gj_compact.specs.declared.compact_segment.CompactSegment.TheInside.{Inside}
+use Rattle.gj_compact.specs.Sums.{AreCounts, edge_kind}
 use Rattle.gj_compact.specs.Compact.{IsCompact, IsPart, IsRoomy, HasEnds, shown_by, items_of, part_on}
 use Rattle.gj_compact.specs.Lanes.{Laned, run_of, total_of, sum_of, wanted}
 use Rattle.gj_compact.specs.Turns.{plain, near, across, is_at, ends_of}
@@ -128,8 +129,9 @@ shown_is users posts edges items numbers u p = rw (numbers, u, p) (named-numbere
 
 pub compact_of : (s : Inside) (items : List Item) → 1 ≤ s.room → s.room ≤ 65536 → length items ≤ s.room → s.room ≤ vec_capacity s.edges
     → map plain s.edges.items ≡ numbered items → s.users.ids.ids ≡ vertices_of items User → s.posts.ids.ids ≡ vertices_of items Post
-    → HasEnds s.users User s.edges.items s.room → HasEnds s.posts Post s.edges.items s.room → IsRoomy s.users s.room → IsRoomy s.posts s.room → IsCompact s
-compact_of s items any fits few held numbers u p user_ends post_ends users posts =
+    → HasEnds s.users User s.edges.items s.room → HasEnds s.posts Post s.edges.items s.room → IsRoomy s.users s.room → IsRoomy s.posts s.room
+    → AreCounts s.kinds (map edge_kind s.edges.items) → IsCompact s
+compact_of s items any fits few held numbers u p user_ends post_ends users posts counted =
     let shown = shown_is s.users.ids.ids s.posts.ids.ids s.edges.items items numbers u p in
     record {
       any = any;
@@ -137,6 +139,7 @@ compact_of s items any fits few held numbers u p user_ends post_ends users posts
       few = omega (arith, few, ap length shown, shown_length s);
       held = held;
       numbers = numbers ∙ ap numbered (sym shown);
+      counted = counted;
       users = record { roomy = users; named = u ∙ ap (λ (l : List Item). vertices_of l User) (sym shown); ends = user_ends };
       posts = record { roomy = posts; named = p ∙ ap (λ (l : List Item). vertices_of l Post) (sym shown); ends = post_ends };
     }

@@ -4,5 +4,7 @@ pub mod CompactLemmas
 pub mod LaneLemmas
 pub mod NoteLemmas
 pub mod OpenLemmas
-pub mod TurnLemmas
+pub mod SpanLemmas
 pub mod SumLemmas
+pub mod TotalLemmas
+pub mod TurnLemmas

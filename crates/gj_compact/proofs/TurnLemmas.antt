@@ -40,6 +40,7 @@ pub record FilledTo (old lane : Laned) (side : Side) (edges : List Edge) (i : �
   pub size : lane.room ≡ old.room
   pub total : total_of lane.runs ≡ total_of old.runs + i
   pub room : HasRoom lane side (drop i edges)
+  pub spare : (v : ℕ) → v < length old.runs → get_or lane.spare v 0 + length (ends_of (take i edges) side v) ≡ get_or old.spare v 0
 
 pub filled_none : (old : Laned) (side : Side) (edges : List Edge) → HasRoom old side edges → FilledTo old old side edges 0
 filled_none old side edges room = record {
@@ -49,6 +50,7 @@ filled_none old side edges room = record {
   size = refl;
   total = omega arith;
   room = room;
+  spare = λ v h. omega (arith, ap length (ends_none side v));
 }
 
 -- the next one has room
@@ -102,6 +104,21 @@ filled_more old lane lane' side edges i x so below is within new =
                 omega (arith, was, e, f, g, s, t)
             | inr ne ↦
                 let g = ap length (ends_no x (drop (i + 1) edges) side v (λ (q : near side x ≡ v). ne (sym q))) in
+                let s = get_or-set_other lane.spare u v (get_or lane.spare u 0 - 1) 0 ne in
+                omega (arith, was, e, f, g, s)
+          ];
+      spare = λ v h.
+          let was = so.spare v h in
+          let e = ap (λ (l : Laned). get_or l.spare v 0) new in
+          let f = ap (λ (l : List Edge). length (ends_of l side v)) last in
+          elim (cases_eq v u) [
+            | inl q ↦
+                let g = ap length (ends_push_yes (take i edges) x side v (sym q)) ∙ length_push (ends_of (take i edges) side v) (across side x) in
+                let s = ap (λ (n : ℕ). get_or (set lane.spare u (get_or lane.spare u 0 - 1)) n 0) q ∙ get_or-set_same lane.spare u (get_or lane.spare u 0 - 1) 0 in_spare in
+                let t = ap (λ (n : ℕ). get_or lane.spare n 0) q in
+                omega (arith, was, e, f, g, s, t, some)
+            | inr ne ↦
+                let g = ap length (ends_push_no (take i edges) x side v (λ (q : near side x ≡ v). ne (sym q))) in
                 let s = get_or-set_other lane.spare u v (get_or lane.spare u 0 - 1) 0 ne in
                 omega (arith, was, e, f, g, s)
           ];

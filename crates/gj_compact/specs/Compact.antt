@@ -9,6 +9,7 @@ use Rattle.gj_compact.specs.declared.edge.Edge.{Edge}
 use Rattle.gj_compact.specs.declared.part.Part.{Part}
 use Rattle.gj_compact.specs.declared.compact_segment.CompactSegment.TheInside.{Inside}
 use Rattle.gj_compact.specs.Lanes.{run_of}
+use Rattle.gj_compact.specs.Sums.{AreCounts, edge_kind}
 use Rattle.gj_compact.specs.Turns.{ends_of, plain}
 
 -- the interactions of a segment, and how many it may hold
@@ -51,5 +52,6 @@ pub record IsCompact (s : Inside) : Type 0 where
   pub few : length s.edges.items ≤ s.room
   pub held : s.room ≤ vec_capacity s.edges
   pub numbers : map plain s.edges.items ≡ numbered (shown_by s).items
+  pub counted : AreCounts s.kinds (map edge_kind s.edges.items)
   pub users : IsPart s.users User (shown_by s).items s.edges.items s.room
   pub posts : IsPart s.posts Post (shown_by s).items s.edges.items s.room

@@ -2,5 +2,6 @@ pub mod Blocks
 pub mod Cells
 pub mod Compact
 pub mod Lanes
+pub mod Spans
 pub mod Sums
 pub mod Turns

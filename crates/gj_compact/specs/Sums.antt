@@ -5,6 +5,7 @@ use Rattle.gj_base.specs.declared.kind.Kind.TheVariants.{Click, Favorite, Retwee
 use Rattle.gj_base.specs.declared.mask.Mask.{Mask}
 use Rattle.gj_base.specs.Kinds.{has_kind, same_kind}
 use Rattle.gj_compact.specs.declared.counts.Counts.{Counts}
+use Rattle.gj_compact.specs.declared.edge.Edge.{Edge}
 
 -- the count of a kind
 abbrev pub kind_count : Counts → Kind → ℕ
@@ -39,3 +40,7 @@ pub record IsRoom (sums : List Counts) (kinds : List Kind) : Type 0 where
 -- the counts before each block
 abbrev pub AreSums : List Counts → List Kind → Type 0
 AreSums sums kinds = (b : ℕ) → b < length sums → AreCounts (slice_index_or sums b none_counted) (take (64 * b) kinds)
+
+-- the kind of an interaction
+abbrev pub edge_kind : Edge → Kind
+edge_kind edge = edge.kind

@@ -1,23 +1,25 @@
 //! Ends in columns: a walk reads the vertices alone, and most queries no moment.
-ghost use Rattle.std.specs.Prelude.{◌≡◌, ◌+◌, ◌-◌, ◌<◌, ◌≤◌, IfOk, IfSome, Some, replicate, length, take, drop, count_by, filter, slice_get, slice_set};
+ghost use Rattle.std.specs.Prelude.{◌≡◌, ◌+◌, ◌-◌, ◌*◌, ◌/◌, ◌<◌, ◌≤◌, IfOk, IfSome, Some, replicate, length, take, drop, count_by, filter, slice_get, slice_set};
 ghost use Rattle.gj_compact.specs.Blocks.{lets_through, moments_between, AreBounds};
 ghost use Rattle.gj_compact.specs.Cells.{no_end};
 
 use crate::counts::Counts;
 use crate::edge::End;
+use crate::spans::{NO_SPAN, Span, span_blocks};
 use crate::sums::{NONE, before, block_at, sum_blocks};
 use gj_base::{Kind, Mask, Memory};
 use std::alloc::Global;
 use std::marker::Model;
 
 /// A list of ends of fixed length: their vertices, their kinds and their moments. Once it is sealed, and until it changes,
-/// the kinds before each block are counted.
+/// the kinds before each block are counted, and the moments of each block are bounded.
 #[derive(Drop)]
 pub struct Cells {
     vertices: Vec<u32>,
     kinds: Vec<Kind>,
     moments: Vec<u64>,
     sums: Vec<Counts>,
+    spans: Vec<Span>,
     sealed: bool,
 }
 
@@ -25,13 +27,14 @@ impl Model for Cells {
     ghost use Rattle.std.specs.Prelude.{◌≡◌, List, IsTrue, length};
     ghost use Rattle.gj_compact.specs.declared.edge.End.{End};
     ghost use Rattle.gj_compact.specs.Cells.{joined};
+    ghost use Rattle.gj_compact.specs.Spans.{AreSpans};
     ghost use Rattle.gj_compact.specs.Sums.{AreSums, IsRoom};
 
     ghost Value = { List End };
 
     ghost view = { λ c. joined c.vertices.items c.kinds.items c.moments.items };
 
-    ghost invariant = { λ c. (length c.kinds.items ≡ length c.vertices.items) × (length c.moments.items ≡ length c.vertices.items) × IsRoom c.sums.items c.kinds.items × (IsTrue c.sealed → AreSums c.sums.items c.kinds.items) };
+    ghost invariant = { λ c. (length c.kinds.items ≡ length c.vertices.items) × (length c.moments.items ≡ length c.vertices.items) × IsRoom c.sums.items c.kinds.items × (IsTrue c.sealed → AreSums c.sums.items c.kinds.items) × (length c.spans.items ≡ length c.sums.items) × (IsTrue c.sealed → AreSpans c.spans.items c.moments.items) };
 }
 
 /// Copies `len` values of one column into another.
@@ -62,11 +65,15 @@ impl Cells {
         let Ok(sums) = vec![in alloc; NONE; room as usize / 64 + 1] else {
             return Err(Memory);
         };
+        let Ok(spans) = vec![in alloc; NO_SPAN; room as usize / 64 + 1] else {
+            return Err(Memory);
+        };
         Ok(Cells {
             vertices,
             kinds,
             moments,
             sums,
+            spans,
             sealed: false,
         })
     }
@@ -101,17 +108,45 @@ impl Cells {
         self.vertices[i]
     }
 
-    /// Counts the kinds before each block. It takes time in the number of cells.
+    /// Counts the kinds before each block, and bounds its moments. It takes time in the number of cells.
     pub fn seal(&mut self)
         ensures { self.new ≡ self.old }
     {
         sum_blocks(&mut self.sums, &self.kinds);
+        span_blocks(&mut self.spans, &self.moments);
         self.sealed = true;
     }
 
-    /// How many of the ends from one place up to another the mask lets through: by blocks, where the cells are sealed and
-    /// the mask asks for no moment.
+    /// How many of the ends from one place up to another the mask lets through: by blocks, where these are many and the cells
+    /// are sealed.
     pub fn count(&self, from: usize, to: usize, mask: Mask) -> usize
+        requires order { from ≤ to }
+        requires inside { to ≤ length self.now }
+        ensures exact { result ≡ count_by (lets_through mask) (take (to - from) (drop from self.now)) }
+        ensures in_range { result ≤ to - from }
+    {
+        if to - from < 64 {
+            return self.scan_count(from, to, mask);
+        }
+        self.count_long(from, to, mask)
+    }
+
+    /// One of the ends from one place up to another that the mask lets through, by its index among them: by blocks, where
+    /// these are many and the cells are sealed.
+    pub fn nth(&self, from: usize, to: usize, mask: Mask, i: usize) -> End
+        requires order { from ≤ to }
+        requires inside { to ≤ length self.now }
+        requires index { i < count_by (lets_through mask) (take (to - from) (drop from self.now)) }
+        ensures { slice_get (filter (lets_through mask) (take (to - from) (drop from self.now))) i ≡ Some result }
+    {
+        if to - from < 64 {
+            return self.scan_nth(from, to, mask, i);
+        }
+        self.nth_long(from, to, mask, i)
+    }
+
+    /// How many of the ends the mask lets through: by blocks, where the cells are sealed.
+    fn count_long(&self, from: usize, to: usize, mask: Mask) -> usize
         requires order { from ≤ to }
         requires inside { to ≤ length self.now }
         ensures exact { result ≡ count_by (lets_through mask) (take (to - from) (drop from self.now)) }
@@ -122,13 +157,13 @@ impl Cells {
                 return before(&self.sums, &self.kinds, to, mask)
                     - before(&self.sums, &self.kinds, from, mask);
             }
+            return self.count_by_blocks(from, to, mask);
         }
         self.scan_count(from, to, mask)
     }
 
-    /// One of the ends from one place up to another that the mask lets through, by its index among them: from a block on
-    /// that is found by its counts, where the cells are sealed and the mask asks for no moment.
-    pub fn nth(&self, from: usize, to: usize, mask: Mask, i: usize) -> End
+    /// One of the ends that the mask lets through: from a block on that is found by its counts, where the cells are sealed.
+    fn nth_long(&self, from: usize, to: usize, mask: Mask, i: usize) -> End
         requires order { from ≤ to }
         requires inside { to ≤ length self.now }
         requires index { i < count_by (lets_through mask) (take (to - from) (drop from self.now)) }
@@ -141,8 +176,69 @@ impl Cells {
                 let left = goal - self.sums[block].of(mask);
                 return self.scan_nth(64 * block, to, mask, left);
             }
+            return self.nth_by_blocks(from, to, mask, i);
         }
         self.scan_nth(from, to, mask, i)
+    }
+
+    /// How many of the ends the mask lets through, block by block.
+    fn count_by_blocks(&self, from: usize, to: usize, mask: Mask) -> usize
+        requires order { from ≤ to }
+        requires inside { to ≤ length self.now }
+        ensures exact { result ≡ count_by (lets_through mask) (take (to - from) (drop from self.now)) }
+        ensures in_range { result ≤ to - from }
+    {
+        let mut count = 0;
+        let mut at = from;
+        while at < to {
+            let next = at + (to - at).min(64 - at % 64);
+            count += self.count_in_block(at, next, mask);
+            at = next;
+        }
+        count
+    }
+
+    /// One of the ends that the mask lets through, in a block that is found by passing over those before it.
+    fn nth_by_blocks(&self, from: usize, to: usize, mask: Mask, i: usize) -> End
+        requires order { from ≤ to }
+        requires inside { to ≤ length self.now }
+        requires index { i < count_by (lets_through mask) (take (to - from) (drop from self.now)) }
+        ensures { slice_get (filter (lets_through mask) (take (to - from) (drop from self.now))) i ≡ Some result }
+    {
+        let mut left = i;
+        let mut at = from;
+        while at < to {
+            let next = at + (to - at).min(64 - at % 64);
+            let here = self.count_in_block(at, next, mask);
+            if left < here {
+                return self.scan_nth(at, to, mask, left);
+            }
+            left -= here;
+            at = next;
+        }
+        unreachable!()
+    }
+
+    /// How many of the ends of a part of one block the mask lets through: none or all of its kinds, where the bounds of the
+    /// block's moments say so.
+    fn count_in_block(&self, from: usize, to: usize, mask: Mask) -> usize
+        requires order { from ≤ to }
+        requires inside { to ≤ length self.now }
+        requires block { to ≤ 64 * (from / 64) + 64 }
+        ensures exact { result ≡ count_by (lets_through mask) (take (to - from) (drop from self.now)) }
+        ensures in_range { result ≤ to - from }
+    {
+        if self.sealed {
+            let span = self.spans[from / 64];
+            if span.greatest < mask.not_before() {
+                return 0;
+            }
+            if mask.not_before() <= span.least {
+                return before(&self.sums, &self.kinds, to, mask)
+                    - before(&self.sums, &self.kinds, from, mask);
+            }
+        }
+        self.scan_count(from, to, mask)
     }
 
     /// How many of the ends the mask lets through, looked at one by one.
@@ -218,6 +314,9 @@ impl Cells {
         ensures before { take to self.new ≡ take to self.old }
         ensures long { length self.new ≡ length self.old }
     {
+        if len == 0 {
+            return;
+        }
         copy_part(&mut self.vertices, to, &cells.vertices, from, len);
         copy_part(&mut self.kinds, to, &cells.kinds, from, len);
         copy_part(&mut self.moments, to, &cells.moments, from, len);

@@ -3,8 +3,11 @@ ghost use Rattle.std.specs.Prelude.{◌≡◌, ◌+◌, ◌<◌, ◌≤◌, [], 
 ghost use Rattle.gj_base.specs.Numbered.{numbered};
 ghost use Rattle.gj_compact.specs.Turns.{plain};
 
+use crate::counts::Counts;
 use crate::edge::Edge;
 use crate::part::Part;
+use crate::sums::NONE;
+use crate::totals::count_all;
 use gj_base::{Memory, SegmentView, Side};
 use std::alloc::Global;
 use std::marker::Model;
@@ -15,6 +18,7 @@ pub struct CompactSegment {
     pub(crate) users: Part,
     pub(crate) posts: Part,
     pub(crate) edges: Vec<Edge>,
+    pub(crate) kinds: Counts,
     room: u32,
 }
 
@@ -73,6 +77,7 @@ impl CompactSegment {
                 users,
                 posts,
                 edges,
+                kinds: NONE,
                 room: capacity,
             }),
             Err(_) => Err(Memory),
@@ -87,6 +92,7 @@ impl CompactSegment {
         ensures room { self.new.room ≡ self.old.room }
     {
         copy_edges(&mut self.edges, from);
+        self.kinds = count_all(&self.edges);
         self.users.take(Side::User, from, &self.edges);
         self.posts.take(Side::Post, from, &self.edges);
     }

@@ -206,8 +206,8 @@ impl Lane {
         };
     }
 
-    /// Counts the kinds before each block of cells, which `count` and `nth` use until the next `push` or `open`. It takes
-    /// time in the number of all ends.
+    /// Counts the kinds before each block of cells and bounds its moments, which `count` and `nth` use until the next `push`
+    /// or `open`. It takes time in the room.
     pub fn seal(&mut self)
         ensures { self.new ≡ self.old }
     {

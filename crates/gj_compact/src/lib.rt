@@ -1,8 +1,8 @@
 //! The contiguous form: the ends of each vertex beside each other, oldest first.
 //!
 //! Contracts see a `Lane` as one list of ends a vertex, and a `CompactSegment` as the list of its interactions. `new` takes
-//! all memory; no other call takes any. The kinds before each block of 64 cells are counted once a lane is sealed, so that
-//! a heavy vertex is counted and searched by blocks; no clause speaks of that.
+//! all memory; no other call takes any. Once a lane is sealed, the kinds before each block of 64 cells are counted and the
+//! moments of each block bounded, so that a heavy vertex is counted and searched by blocks; no clause speaks of that.
 #![tactic(auto)]
 
 mod cells;
@@ -11,9 +11,11 @@ mod counts;
 mod edge;
 mod lane;
 mod part;
+mod spans;
 mod sums;
 #[cfg(test)]
 mod tests;
+mod totals;
 mod turns;
 mod view;
 

@@ -175,19 +175,39 @@ fn bounds_of(rt: &impl Abort, compact: &CompactSegment, block: u32) -> (u64, u64
     compact.block_moments(Side::User, 0, block)
 }
 
+/// The moment of the edge `i`: they rise, fall and stand still.
+fn moment_of(i: u64) -> u64
+    requires { i < 300 }
+{
+    if i < 100 {
+        i
+    } else if i < 200 {
+        200 - i
+    } else {
+        150
+    }
+}
+
+/// How many edges of user 1 are from the moment on, and which is the last of them.
+fn ends_from(rt: &impl Abort, compact: &CompactSegment, moment: u64, eligible: u32, last: u64)
+    requires { moment < 300 }
+{
+    let mask = Mask::all().from_moment(moment);
+    assert_eq!(rt; count_in(compact, Side::User, 1, mask), eligible);
+    if eligible > 0 {
+        assert_eq!(rt;
+            end_at(rt, compact, Side::User, 1, mask, eligible - 1),
+            last
+        );
+    }
+}
+
 #[test]
-fn a_block_has_the_moments_of_its_64_edges(rt: HostRuntime) -> Result<(), Fail> {
+fn edges_before_a_least_moment_are_passed_over(rt: HostRuntime) -> Result<(), Fail> {
     let mut pool = PoolSegment::new(rt.alloc(), 300)?;
     let mut compact = CompactSegment::new(rt.alloc(), 300)?;
     for i in 0..300 {
-        let at = if i < 100 {
-            i
-        } else if i < 200 {
-            200 - i
-        } else {
-            150
-        };
-        add(&rt, &mut pool, 1, i, Kind::Click, at);
+        add(&rt, &mut pool, 1, i, Kind::Click, moment_of(i));
     }
     assert!(rt; pool.len() < 301);
     compact.fill_from(&pool);
@@ -200,17 +220,27 @@ fn a_block_has_the_moments_of_its_64_edges(rt: HostRuntime) -> Result<(), Fail> 
     ] {
         assert_eq!(rt; bounds_of(&rt, &compact, block), bounds, "block {block}");
     }
-    for (moment, eligible) in [
-        (0, 300),
-        (1, 299),
-        (100, 101),
-        (101, 100),
-        (150, 100),
-        (151, 0),
+    for (moment, eligible, last) in [
+        (0, 300, 299),
+        (1, 299, 299),
+        (100, 101, 299),
+        (101, 100, 299),
+        (150, 100, 299),
+        (151, 0, 0),
     ] {
+        ends_from(&rt, &compact, moment, eligible, last);
+    }
+    for (i, post) in [(0, 100), (1, 200), (57, 256)] {
         assert_eq!(rt;
-            count_in(&compact, Side::User, 1, Mask::all().from_moment(moment)),
-            eligible
+            end_at(
+                &rt,
+                &compact,
+                Side::User,
+                1,
+                Mask::all().from_moment(100),
+                i
+            ),
+            post
         );
     }
     Ok(())

@@ -58,6 +58,7 @@ pub fn fill(lane: &mut Lane, side: Side, edges: &[Edge])
     requires room { HasRoom lane.old side edges.now }
     ensures runs { (v : ℕ) → v < length lane.old.runs → run_of lane.new.runs v ≡ run_of lane.old.runs v ++ ends_of edges.now side v }
     ensures long { length lane.new.runs ≡ length lane.old.runs }
+    ensures spare { (v : ℕ) → v < length lane.old.runs → slice_index_or lane.new.spare v 0 + length (ends_of edges.now side v) ≡ slice_index_or lane.old.spare v 0 }
     ensures fresh { lane.new.fresh ≡ lane.old.fresh }
     ensures size { lane.new.room ≡ lane.old.room }
     ensures total { total_of lane.new.runs ≡ total_of lane.old.runs + length edges.now }

@@ -1,12 +1,10 @@
 //! How a compact segment is read.
-ghost use Rattle.std.specs.Prelude.{◌≡◌, ◌≤◌, map, count_by, length};
-ghost use Rattle.gj_base.specs.Ends.{passes};
+ghost use Rattle.std.specs.Prelude.{◌≡◌};
 ghost use Rattle.gj_compact.specs.Compact.{part_on};
-ghost use Rattle.gj_compact.specs.Turns.{plain};
 
 use crate::compact_segment::CompactSegment;
-use crate::edge::Edge;
 use crate::part::Part;
+use crate::totals::total_in;
 use gj_base::{Kind, Mask, SegmentView, Side};
 
 /// The part on a side.
@@ -18,14 +16,6 @@ fn part_of<'a>(side: Side, users: &'a Part, posts: &'a Part) -> &'a Part
         Side::User => users,
         Side::Post => posts,
     }
-}
-
-/// How many of the interactions the mask lets through.
-fn total_in(edges: &[Edge], mask: Mask) -> usize
-    ensures exact { result ≡ count_by (passes mask) (map plain edges.now) }
-    ensures in_range { result ≤ length edges.now }
-{
-    edges.iter().filter(|x| mask.lets(x.kind, x.at)).count()
 }
 
 impl SegmentView for CompactSegment {
@@ -62,7 +52,7 @@ impl SegmentView for CompactSegment {
     }
 
     fn total(&self, mask: Mask) -> u32 {
-        total_in(&self.edges, mask) as u32
+        total_in(self.kinds, &self.edges, mask) as u32
     }
 
     fn count_of(&self, side: Side, v: u32, mask: Mask) -> u32 {

@@ -1,3 +1,4 @@
+pub mod BeginLemmas
 pub mod JoinLemmas
 pub mod LevelLemmas
 pub mod PairLemmas

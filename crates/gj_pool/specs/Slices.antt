@@ -65,3 +65,8 @@ pub record AreSlices (rows : List Row) (cells : List ℕ) (used : ℕ) : Type 0 
 -- the cells that lists of these lengths, level 0 not counted, need
 abbrev pub cut_for : List (List ℕ) → ℕ
 cut_for lists = sum_by (λ (l : List ℕ). spent (length l + 2)) lists
+
+-- no row from `begun` on has a slice
+pub record HaveBegun (rows : List Row) (begun : ℕ) : Type 0 where
+  pub within : begun ≤ length rows
+  pub rest : (v : ℕ) (d : Row) → begun ≤ v → v < length rows → ((slice_index_or rows v d).degree ≡ 0) × ((slice_index_or rows v d).full ≡ 0)

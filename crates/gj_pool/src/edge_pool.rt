@@ -99,7 +99,8 @@ impl EdgePool {
         self.left
     }
 
-    /// Empties each list, so that all pushes are left. It takes time in the number of vertices, and no memory.
+    /// Empties each list, so that all pushes are left. It takes time in the largest vertex that was pushed for since the last
+    /// clear, and no memory.
     pub fn clear(&mut self)
         ensures exact { self.new ≡ record self.old { lists = replicate (length self.old.lists) [] } }
     {

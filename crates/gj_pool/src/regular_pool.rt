@@ -1,5 +1,5 @@
 //! The pool of the first two cells of each vertex.
-ghost use Rattle.std.specs.Prelude.{◌≡◌, ◌<◌, ◌≤◌, ◌^◌, [], IfOk, length, replicate, slice_index};
+ghost use Rattle.std.specs.Prelude.{◌≡◌, ◌<◌, ◌≤◌, ◌^◌, [], ◌++◌, IfOk, drop, length, replicate, slice_index};
 ghost use Rattle.gj_pool.specs.Lists.{appended, cells_of};
 
 use gj_base::Memory;
@@ -19,16 +19,26 @@ struct Pair {
 #[derive(Drop)]
 pub struct RegularPool {
     pairs: Vec<Pair>,
+    /// No vertex from here on has a cell.
+    begun: usize,
 }
+
+/// A vertex with no cell.
+const NO_CELL: Pair = Pair {
+    degree: 0,
+    cells: [0; 2],
+};
 
 impl Model for RegularPool {
     ghost use Rattle.std.specs.Prelude.{List, ℕ, map};
 
     ghost Value = { List (List ℕ) };
 
-    ghost use Rattle.gj_pool.specs.Pairs.{pair_cells};
+    ghost use Rattle.gj_pool.specs.Pairs.{AreBegun, pair_cells};
 
     ghost view = { λ pool. map pair_cells pool.pairs.items };
+
+    ghost invariant = { λ pool. AreBegun pool.pairs.items pool.begun };
 }
 
 impl RegularPool {
@@ -38,12 +48,8 @@ impl RegularPool {
         requires limit { vertices ≤ 65536 }
         ensures ok { IfOk result (λ pool. pool ≡ replicate vertices []) }
     {
-        let empty = Pair {
-            degree: 0,
-            cells: [0; 2],
-        };
-        match vec![in alloc; empty; vertices as usize] {
-            Ok(pairs) => Ok(RegularPool { pairs }),
+        match vec![in alloc; NO_CELL; vertices as usize] {
+            Ok(pairs) => Ok(RegularPool { pairs, begun: 0 }),
             Err(_) => Err(Memory),
         }
     }
@@ -57,6 +63,7 @@ impl RegularPool {
         let pair = &mut self.pairs[v as usize];
         pair.cells[pair.degree as usize] = cell;
         pair.degree += 1;
+        self.begun = self.begun.max(v as usize + 1);
     }
 
     /// The cell at place `i` of vertex `v`.
@@ -77,12 +84,19 @@ impl RegularPool {
         self.pairs[v as usize].degree
     }
 
-    /// Empties each list. It takes time in the number of vertices, and no memory.
+    /// Empties each list. It takes time in the largest vertex that has a cell, and no memory.
     pub fn clear(&mut self)
         ensures exact { self.new ≡ replicate (length self.old) [] }
     {
-        for pair in self.pairs.iter_mut() {
-            pair.degree = 0;
-        }
+        fill_first(&mut self.pairs, self.begun, NO_CELL);
+        self.begun = 0;
     }
+}
+
+/// Gives the first pairs that value.
+fn fill_first(pairs: &mut [Pair], count: usize, value: Pair)
+    requires { count ≤ length pairs.old }
+    ensures { pairs.new ≡ replicate count value ++ drop count pairs.old }
+{
+    pairs[..count].fill(value);
 }

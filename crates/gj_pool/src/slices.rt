@@ -1,5 +1,5 @@
 //! The slices of the levels from 1 on, cut from one array.
-ghost use Rattle.std.specs.Prelude.{◌≡◌, ◌≢◌, ℕ, ◌+◌, ◌-◌, ◌*◌, ◌^◌, ◌<◌, ◌≤◌, [], IfOk, length, replicate, slice_index, slice_set, vec_len};
+ghost use Rattle.std.specs.Prelude.{◌≡◌, ◌≢◌, ℕ, ◌+◌, ◌-◌, ◌*◌, ◌^◌, ◌<◌, ◌≤◌, [], ◌++◌, IfOk, drop, length, replicate, slice_index, slice_set, vec_len};
 ghost use Rattle.gj_pool.specs.Levels.{hops_to};
 ghost use Rattle.gj_pool.specs.Lists.{appended, cells_of};
 
@@ -27,18 +27,20 @@ pub struct Slices {
     rows: Vec<Row>,
     cells: Vec<u32>,
     used: u32,
+    /// No vertex from here on has a slice.
+    begun: usize,
 }
 
 impl Model for Slices {
     ghost use Rattle.std.specs.Prelude.{length, map};
-    ghost use Rattle.gj_pool.specs.Slices.{AreSlices, Sliced, row_cells};
+    ghost use Rattle.gj_pool.specs.Slices.{AreSlices, HaveBegun, Sliced, row_cells};
     ghost use Rattle.gj_pool.specs.declared.slices.Row.{Row};
 
     ghost Value = { Sliced };
 
     ghost view = { λ s. record { lists = map (λ (row : Row). row_cells s.cells.items row.first row.degree) s.rows.items; room = length s.cells.items } };
 
-    ghost invariant = { λ s. AreSlices s.rows.items s.cells.items s.used };
+    ghost invariant = { λ s. AreSlices s.rows.items s.cells.items s.used × HaveBegun s.rows.items s.begun };
 }
 
 impl Slices {
@@ -59,6 +61,7 @@ impl Slices {
                 rows,
                 cells,
                 used: 0,
+                begun: 0,
             }),
             Err(_) => Err(Memory),
         }
@@ -78,6 +81,7 @@ impl Slices {
             first: row.first,
             next: row.next + 1,
         };
+        self.begun = self.begun.max(v as usize + 1);
     }
 
     /// The cell at place `i` of vertex `v`, places of level 0 not counted. It follows the links one after another.
@@ -104,14 +108,13 @@ impl Slices {
         self.rows[v as usize].degree
     }
 
-    /// Empties each list. It takes time in the number of vertices.
+    /// Empties each list. It takes time in the largest vertex that has a slice.
     pub fn clear(&mut self)
         ensures exact { self.new ≡ record self.old { lists = replicate (length self.old.lists) [] } }
     {
-        for row in self.rows.iter_mut() {
-            *row = NO_SLICE;
-        }
+        empty(&mut self.rows, self.begun);
         self.used = 0;
+        self.begun = 0;
     }
 }
 
@@ -122,6 +125,14 @@ const NO_SLICE: Row = Row {
     first: 0,
     next: 0,
 };
+
+/// Empties the first rows.
+fn empty(rows: &mut [Row], count: usize)
+    requires { count ≤ length rows.old }
+    ensures { rows.new ≡ replicate count NO_SLICE ++ drop count rows.old }
+{
+    rows[..count].fill(NO_SLICE);
+}
 
 /// The row with room for one more cell: where its slices are full, with a new slice at the end of those in use.
 fn ready(row: Row, cells: &mut Vec<u32>, used: &mut u32) -> Row

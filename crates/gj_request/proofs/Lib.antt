@@ -1,6 +1,10 @@
 pub mod ArrayLemmas
+pub mod DigitsLemmas
 pub mod EachLemmas
 pub mod KindLemmas
 pub mod NamesLemmas
+pub mod PlainBatchLemmas
+pub mod PlainLemmas
 pub mod SeedLemmas
+pub mod TakenLemmas
 pub mod TreeLemmas

@@ -1,5 +1,6 @@
 pub mod Forms
 pub mod Names
+pub mod Plain
 pub mod Requests
 pub mod Results
 pub mod SeenIds

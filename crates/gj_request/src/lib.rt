@@ -9,6 +9,7 @@ mod forms;
 mod items;
 mod name;
 mod path;
+mod plain;
 mod refusal;
 mod request;
 

@@ -1,13 +1,15 @@
 //! What a request asks for.
-ghost use Rattle.std.specs.Prelude.{◌≡◌, ◌≤◌, IfOk, IfErr, Ok, Err, Some, is_some, option_map};
+ghost use Rattle.std.specs.Prelude.{◌≡◌, ◌≤◌, IfOk, IfErr, Ok, Err, Some, None, is_some, option_map};
 ghost use Rattle.serde_json.specs.View.{view};
 ghost use Rattle.gj_request.specs.Requests.{tree_of, parsed, batch_of, walk_of, subgraph_of, similar_of, asked, has_id, IsAsked};
 ghost use Rattle.gj_request.specs.Results.{Refuses, Gives};
+ghost use Rattle.gj_base.specs.declared.ask.Route.TheVariants.{Interactions};
 
 use crate::fields::{check_names, id, ids, kinds, moment, number, small, truth};
 use crate::items::items;
 use crate::name::Name;
 use crate::path::read_path_id;
+use crate::plain::read_plain;
 use crate::refusal::{Reason, Refusal};
 use gj_base::{
     Ask, HISTORY_END, MAX_ITERATIONS, MAX_PROOF, MAX_RESET, MAX_STEPS, MAX_TOP, Query, Route,
@@ -33,7 +35,7 @@ pub fn read_request(
     ensures in_range { IfOk result IsAsked }
 {
     match route {
-        Route::Interactions => read_batch(alloc, &parse(alloc, body)?),
+        Route::Interactions => read_interactions(alloc, body),
         Route::Walk => read_walk(alloc, &parse(alloc, body)?),
         Route::Subgraph => read_subgraph(alloc, &parse(alloc, body)?),
         Route::Similar => Ok(read_similar(&parse(alloc, body)?)?),
@@ -59,6 +61,26 @@ fn parse(alloc: Global, body: &[u8]) -> Result<Value, Refusal>
             }
         }
     }
+}
+
+/// A batch. What is not in the plain form is read by its tree.
+fn read_interactions(alloc: Global, body: &[u8]) -> Result<Ask, Refusal>
+    ensures exact { Gives (asked Interactions None body.now) result }
+    ensures in_range { IfOk result IsAsked }
+{
+    match read_plain(alloc, body) {
+        Some(items) => Ok(Ask::Items(items)),
+        None => read_by_tree(alloc, body),
+    }
+}
+
+/// A batch in any form.
+#[tactic(auto, unfolding(crate::specs::Requests::asked))]
+pub(crate) fn read_by_tree(alloc: Global, body: &[u8]) -> Result<Ask, Refusal>
+    ensures exact { Gives (asked Interactions None body.now) result }
+    ensures in_range { IfOk result IsAsked }
+{
+    read_batch(alloc, &parse(alloc, body)?)
 }
 
 #[tactic(auto, unfolding(crate::specs::Requests::batch_of))]

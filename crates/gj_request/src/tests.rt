@@ -1,3 +1,5 @@
+use crate::plain::read_plain;
+use crate::request::read_by_tree;
 use crate::{Name, Refusal, read_request};
 use gj_base::{Ask, ItemList, Kind, MAX_ID, Mask, Query, Route, SubAsk, WalkAsk};
 use std::alloc::Global;
@@ -386,7 +388,7 @@ fn a_batch_has_its_interactions_in_order_and_no_moment_is_0(rt: HostRuntime) -> 
     Ok(())
 }
 
-fn items_refusal(rt: &(impl Abort + AllocGlobal), count: u64) -> Result<Option<Refusal>, Fail> {
+fn long_batch(rt: &(impl Abort + AllocGlobal), count: u64) -> Result<String, Fail> {
     let mut body = String::from_str(
         rt.alloc(),
         "{\"items\":[{\"user\":0,\"post\":0,\"kind\":\"click\"}",
@@ -395,17 +397,142 @@ fn items_refusal(rt: &(impl Abort + AllocGlobal), count: u64) -> Result<Option<R
         write!(body, ",{{\"user\":{id},\"post\":{id},\"kind\":\"click\"}}")?;
     }
     body.push_str("]}")?;
-    Ok(batch_refusal(rt.alloc(), body.as_str().as_bytes()))
+    Ok(body)
 }
 
 #[test]
 fn a_batch_has_at_most_4096_items(rt: HostRuntime) -> Result<(), Fail> {
-    assert_eq!(rt; items_refusal(&rt, 4096)?, None);
-    assert_eq!(rt;
-        items_refusal(&rt, 4097)?,
-        Some(Refusal::Range(Name::Items))
-    );
+    for (count, is_plain, refusal) in [
+        (4096, true, None),
+        (4097, false, Some(Refusal::Range(Name::Items))),
+    ] {
+        let body = long_batch(&rt, count)?;
+        assert_eq!(rt;
+            batch_refusal(rt.alloc(), body.as_str().as_bytes()),
+            refusal
+        );
+        assert_eq!(rt;
+            read_plain(rt.alloc(), body.as_str().as_bytes()).is_some(),
+            is_plain
+        );
+        assert!(rt; is_read_alike(rt.alloc(), body.as_str()), "{count} items");
+    }
     Ok(())
+}
+
+/// Whether a body has the same answer as by its tree.
+fn is_read_alike(alloc: Global, body: &str) -> bool {
+    let answer = read_request(alloc, Route::Interactions, None, body.as_bytes());
+    let by_tree = read_by_tree(alloc, body.as_bytes());
+    match (&answer, &by_tree) {
+        (Ok(Ask::Items(items)), Ok(Ask::Items(same))) => items.as_slice() == same.as_slice(),
+        (Err(refusal), Err(same)) => *refusal == *same,
+        _ => false,
+    }
+}
+
+const ITEM: &str = "{\"user\":1,\"post\":2,\"kind\":\"click\"}";
+
+/// A batch of three elements, with this one at its place.
+fn batch_with(rt: &(impl Abort + AllocGlobal), element: &str, place: u32) -> String {
+    let body = match place {
+        0 => format!(in rt.alloc(); "{{\"items\":[{element},{ITEM},{ITEM}]}}"),
+        1 => format!(in rt.alloc(); "{{\"items\":[{ITEM},{element},{ITEM}]}}"),
+        _ => format!(in rt.alloc(); "{{\"items\":[{ITEM},{ITEM},{element}]}}"),
+    };
+    body.expect(rt, "memory")
+}
+
+fn has_form(rt: &(impl Abort + AllocGlobal), body: &str, is_plain: bool) {
+    assert_eq!(rt;
+        read_plain(rt.alloc(), body.as_bytes()).is_some(),
+        is_plain,
+        "{body}"
+    );
+    assert!(rt; is_read_alike(rt.alloc(), body), "{body}");
+}
+
+#[test]
+fn an_element_in_any_form_is_read_as_by_the_tree(rt: HostRuntime) {
+    for (element, is_plain) in [
+        (
+            "{\"at\":9223372036854775807,\"kind\":\"tweet\",\"post\":0,\"user\":9223372036854775807}",
+            true,
+        ),
+        (
+            " {\n\"post\" : 2 ,\t\"kind\" :\"reply\",\r\"user\": 1 } ",
+            true,
+        ),
+        (
+            "{\"us\\u0065r\":1,\"post\":2,\"kind\":\"cl\\u0069ck\"}",
+            true,
+        ),
+        (
+            "{\"user\":1,\"post\":2,\"kind\":\"click\",\"user\":3}",
+            false,
+        ),
+        (
+            "{\"user\":1,\"post\":2,\"kind\":\"click\",\"at\":0,\"at\":1}",
+            false,
+        ),
+        ("{\"user\":1,\"post\":2,\"kind\":\"click\",\"x\":0}", false),
+        ("{\"user\":1,\"post\":2}", false),
+        ("{\"post\":2,\"kind\":\"click\"}", false),
+        ("{\"user\":1,\"post\":2,\"kind\":\"Click\"}", false),
+        ("{\"user\":1,\"post\":2,\"kind\":3}", false),
+        ("{\"user\":\"click\",\"post\":2,\"kind\":\"click\"}", false),
+        ("{\"user\":-1,\"post\":2,\"kind\":\"click\"}", false),
+        ("{\"user\":1.0,\"post\":2,\"kind\":\"click\"}", false),
+        ("{\"user\":1,\"post\":1e2,\"kind\":\"click\"}", false),
+        ("{\"user\":1,\"post\":01,\"kind\":\"click\"}", false),
+        (
+            "{\"user\":9223372036854775808,\"post\":2,\"kind\":\"click\"}",
+            false,
+        ),
+        (
+            "{\"user\":1,\"post\":18446744073709551616,\"kind\":\"click\"}",
+            false,
+        ),
+        (
+            "{\"user\":1,\"post\":2,\"kind\":\"click\",\"at\":9223372036854775808}",
+            false,
+        ),
+        (
+            "{\"user\":1,\"post\":2,\"kind\":\"click\",\"at\":null}",
+            false,
+        ),
+        ("{\"user\":1,\"post\":2,\"kind\":\"click\",}", false),
+        ("{\"user\":1,\"post\":2,\"kind\":\"click\"", false),
+        ("[{\"user\":1,\"post\":2,\"kind\":\"click\"}]", false),
+        ("7", false),
+        ("", false),
+    ] {
+        for place in 0..3 {
+            has_form(&rt, batch_with(&rt, element, place).as_str(), is_plain);
+        }
+    }
+}
+
+#[test]
+fn a_body_in_any_form_is_read_as_by_the_tree(rt: HostRuntime) {
+    for (front, back, is_plain) in [
+        ("\n{ \"items\" : [", "] }\t", true),
+        ("{\"\\u0069tems\":[", "]}", true),
+        ("{\"items\":[", "]} x", false),
+        ("{\"items\":[", "]}}", false),
+        ("{\"items\":[", "]}{}", false),
+        ("{\"items\":[", ",]}", false),
+        ("{\"items\":[", "]", false),
+        ("{\"items\":[", "],\"items\":[]}", false),
+        ("{\"items\":[", "],\"user\":0}", false),
+        ("{\"item\":[", "]}", false),
+        ("[", "]", false),
+        ("", "", false),
+    ] {
+        let body = format!(in rt.alloc(); "{front}{ITEM}{back}").expect(&rt, "memory");
+        has_form(&rt, body.as_str(), is_plain);
+    }
+    has_form(&rt, "{\"items\":[]}", false);
 }
 
 #[test]

@@ -49,7 +49,7 @@ impl Half {
         v
     }
 
-    /// Forgets all.
+    /// Forgets all, in time in the number of the vertices.
     pub fn clear(&mut self)
         ensures ids { self.new.ids.ids ≡ [] }
         ensures room { self.new.ids.room ≡ self.old.ids.room }

@@ -84,8 +84,8 @@ impl PoolSegment {
         self.edges.len() == self.room as usize
     }
 
-    /// Removes all interactions. It takes no memory, and time in the capacity: the identifiers go at once, the lists of the
-    /// pools one by one.
+    /// Removes all interactions. It takes no memory, and time in the numbers of the vertices: the identifiers go at once, the
+    /// lists of the pools one by one.
     pub fn clear(&mut self)
         ensures items { self.new.items ≡ [] }
         ensures room { self.new.room ≡ self.old.room }

@@ -5,3 +5,5 @@
 mod answer_tests;
 #[cfg(test)]
 mod served_tests;
+#[cfg(test)]
+mod waiting;

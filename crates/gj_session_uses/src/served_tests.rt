@@ -1,8 +1,9 @@
 //! Sessions over links in memory, in turn over one seat.
-ghost use Rattle.std.specs.Prelude.{◌≡◌, ◌<◌, ◌^◌, Some};
+ghost use Rattle.std.specs.Prelude.{◌≡◌, ◌<◌, ◌^◌, Some, length};
 ghost use Rattle.gj_base.specs.History.{empty_history};
 
-use gj_base::{Conf, Gate, Grow, ListGraph, MemoryLink, MemorySink, MemorySource, OpenGate};
+use crate::waiting::Waiting;
+use gj_base::{Conf, Gate, Grow, Link, ListGraph, MemoryLink, MemorySink, MemorySource, OpenGate};
 use gj_http::{Framer, Refused, Routes};
 use gj_keep::{NoKeeper, OpenRefused};
 use gj_log::{Naming, Opening};
@@ -25,6 +26,9 @@ const POSTED: &[u8] =
 const WALKED: &[u8] =
     b"HTTP/1.1 200 OK\r\nContent-Type: application/json\r\nContent-Length: 59\r\nConnection: keep-alive\r\n\r\n{\"length\":1,\"results\":[{\"post\":10,\"visits\":3,\"proof\":[1]}]}";
 
+/// The length of the reply to a walk.
+const REPLY: usize = WALKED.len();
+
 /// Writes down the numbers of the messages, as the digits of two numbers.
 #[derive(Drop)]
 struct Recorder {
@@ -45,9 +49,9 @@ impl Gate for Recorder {
 
 /// Two sessions that ended.
 #[derive(Drop)]
-struct Both {
-    first: Done<MemoryLink>,
-    second: Done<MemoryLink>,
+struct Both<L> {
+    first: Done<L>,
+    second: Done<L>,
 }
 
 /// A link over the input, in pieces of so many bytes.
@@ -61,15 +65,15 @@ fn link_over(alloc: Global, input: &[u8], piece: usize) -> Option<MemoryLink>
 }
 
 /// Serves two links in turn by the one seat of an opening.
-fn in_turn<J: Opening, R: Wait + Copy + Drop, G: Gate>(
+fn in_turn<J: Opening, R: Wait + Copy + Drop, L: Link + Drop, G: Gate>(
     rt: R,
     alloc: Global,
     naming: Naming,
     conf: Conf,
-    links: (MemoryLink, MemoryLink),
+    links: (L, L),
     gate: &G,
     grants: &mut Grants,
-) -> Option<Both>
+) -> Option<Both<L>>
     requires grants { grants.old < 2 ^ 40 }
     requires named { (naming.history ≡ J.book) × (naming.blank.name ≡ J.name) × (naming.blank.parts ≡ J.parts) }
     requires parts { (1 ≡ J.places) × (1 ≡ J.parts) }
@@ -119,15 +123,15 @@ fn in_turn<J: Opening, R: Wait + Copy + Drop, G: Gate>(
 }
 
 /// The same over a new opening.
-fn served<R: Wait + Copy + Drop, G: Gate>(
+fn served<R: Wait + Copy + Drop, L: Link + Drop, G: Gate>(
     rt: R,
     alloc: Global,
-    links: (MemoryLink, MemoryLink),
+    links: (L, L),
     gate: &G,
-) -> Option<Both> {
+) -> Option<Both<L>> {
     let conf = Conf::make(16, 2)?;
     let mut grants = Grants::new();
-    in_turn::<Brand, R, G>(rt, alloc, Naming::new(1), conf, links, gate, &mut grants)
+    in_turn::<Brand, R, L, G>(rt, alloc, Naming::new(1), conf, links, gate, &mut grants)
 }
 
 #[test]
@@ -137,7 +141,7 @@ fn the_second_session_sees_what_the_first_posted(rt: HostRuntime) -> Result<(), 
     whole.extend_from_slice(WALK)?;
     let mut replies = POSTED.to_vec(alloc)?;
     replies.extend_from_slice(WALKED)?;
-    for piece in 1..64 {
+    for piece in 1..=whole.len() {
         let first = link_over(alloc, &whole, piece).expect(&rt, "there is memory");
         let second = link_over(alloc, WALK, piece).expect(&rt, "there is memory");
         let gate = Recorder {
@@ -178,6 +182,16 @@ fn a_session_ends_as_its_bytes_do(rt: HostRuntime) -> Result<(), Fail> {
             false,
         ),
         (
+            b"GET /stats HTTP/1.1\r\nConnection: keep-alive,\tclose\r\n\r\n".as_slice(),
+            End::Closed,
+            false,
+        ),
+        (
+            b"HEAD /stats HTTP/1.1\r\n\r\n".as_slice(),
+            End::Closed,
+            false,
+        ),
+        (
             b"nonsense\r\n\r\n".as_slice(),
             End::Stopped(Refused::Head),
             false,
@@ -197,4 +211,35 @@ fn a_session_ends_as_its_bytes_do(rt: HostRuntime) -> Result<(), Fail> {
         let _link = second.into_link();
     }
     Ok(())
+}
+
+/// A client that sends so many of the messages, each once the replies to those before have come.
+fn waiting(alloc: Global, message: &[u8], count: u64, reply: usize) -> Option<Waiting>
+    requires { 0 < length message.now }
+{
+    let mut input = Vec::new(alloc);
+    for _ in 0..count {
+        input.extend_from_slice(message).ok()?;
+    }
+    Some(Waiting::new(link_over(alloc, input.as_slice(), message.len())?, reply))
+}
+
+/// A client that is due one byte more than comes shows that it waits.
+#[test]
+fn each_reply_is_written_before_the_next_message_is_asked_for(rt: HostRuntime) {
+    for (due, end, came) in [
+        (REPLY, End::Finished, 3 * REPLY),
+        (REPLY + 1, End::ReadFault, REPLY),
+    ] {
+        let first = waiting(rt.alloc(), POST, 1, POSTED.len()).expect(&rt, "there is memory");
+        let second = waiting(rt.alloc(), WALK, 3, due).expect(&rt, "there is memory");
+        let Both { first, second } = served(&rt, rt.alloc(), (first, second), &OpenGate).expect(
+            &rt,
+            "there is memory",
+        );
+        assert_eq!(rt; *first.end(), End::Finished);
+        assert_eq!(rt; *second.end(), end, "due {due}");
+        assert_eq!(rt; second.into_link().came(), came, "due {due}");
+        let _link = first.into_link();
+    }
 }

@@ -45,7 +45,7 @@ or_true true = refl
 or_true false = refl
 
 -- each element stands in the list
-stands_self : (xs : List ℕ) → Every (λ v. stands_in xs v ≡ true) xs
+pub stands_self : (xs : List ℕ) → Every (λ v. stands_in xs v ≡ true) xs
 stands_self [] = tt
 stands_self (x ∷ xs) = (
   rw (eqb_self x) refl,

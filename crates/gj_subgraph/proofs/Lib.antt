@@ -4,3 +4,6 @@ pub mod NumberLemmas
 pub mod StepLemmas
 pub mod MassLemmas
 pub mod SumLemmas
+pub mod RegroupLemmas
+pub mod ListLemmas
+pub mod RelaidLemmas

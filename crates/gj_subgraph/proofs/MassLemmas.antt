@@ -73,7 +73,7 @@ and_right : (a b : Bool) → (a && b) ≡ true → b ≡ true
 and_right true b e = e
 and_right false b e = absurd (let bad : false ≡ true = e in cc)
 
-users_stand : (items : List Item) (seeds : List ℕ) (mask : Mask) → Every (λ v. stands_in seeds v ≡ true) (users_of (edges_of items seeds mask))
+pub users_stand : (items : List Item) (seeds : List ℕ) (mask : Mask) → Every (λ v. stands_in seeds v ≡ true) (users_of (edges_of items seeds mask))
 unfolding edges_of
 users_stand [] seeds mask = tt
 users_stand (x ∷ xs) seeds mask = stand_case (passes mask x && stands_in seeds x.user) refl (users_stand xs seeds mask)
@@ -111,7 +111,7 @@ at_most : (f : ℕ → ℕ) (vs : List ℕ) → ((v : ℕ) → f v ≤ 1) → su
 at_most f [] h = omega arith
 at_most f (v ∷ vs) h = let a = sum_by-cons f v vs in let b = at_most f vs h in let c = h v in omega (arith, a, b, c)
 
-few_from : (vs seeds : List ℕ) → Distinct vs → Every (λ v. stands_in seeds v ≡ true) vs → length vs ≤ length seeds
+pub few_from : (vs seeds : List ℕ) → Distinct vs → Every (λ v. stands_in seeds v ≡ true) vs → length vs ≤ length seeds
 few_from vs seeds d h =
     let a = at_least (λ v. count_of seeds v) vs (every_weaker (λ v. stands_in seeds v ≡ true) (λ v. 0 < count_of seeds v) (λ v e. count_stands seeds v e) vs h) in
     let b = at_most (λ s. count_of vs s) seeds d in
@@ -126,7 +126,7 @@ few_users items seeds mask =
 
 -- the start
 
-vertices_same : (side : List ℕ) (v : ℕ) → stands_in (vertices side) v ≡ stands_in side v
+pub vertices_same : (side : List ℕ) (v : ℕ) → stands_in (vertices side) v ≡ stands_in side v
 vertices_same side v = same_case (stands_in (vertices side) v) refl
   where
     not_none : (c : Bool) → stands_in side v ≡ c → stands_in (vertices side) v ≡ true → true ≡ c

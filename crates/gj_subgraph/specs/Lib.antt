@@ -1,2 +1,3 @@
 pub mod Masses
 pub mod Numbers
+pub mod Regrouped

@@ -4,8 +4,10 @@
 //! for the edges, the vertices and the masses.
 #![tactic(auto)]
 
+mod lists;
 mod masses;
 mod number;
+mod relaid;
 mod step;
 #[cfg(test)]
 mod tests;

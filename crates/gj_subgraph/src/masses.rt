@@ -5,27 +5,119 @@ ghost use Rattle.gj_base.specs.Ends.{passes};
 ghost use Rattle.gj_base.specs.Tally.{with_number, sum_of};
 ghost use Rattle.gj_subgraph.specs.Masses.{stands_in, edges_of, users_of, posts_of, vertices, starting, spread, with_mass, total_after, masses_of};
 ghost use Rattle.gj_subgraph.specs.Numbers.{AreNumbered, units_in};
+ghost use Rattle.gj_subgraph.specs.Regrouped.{HaveSameEdges};
 
+use crate::lists::{post_edges, user_edges};
 use crate::number::{numbered, push};
+use crate::relaid::relaid_units;
 use crate::step::half_step;
 use crate::vertices::Vertices;
-use gj_base::{Graph, Item, Mask, Memory, SubAsk, Tally};
+use gj_base::{Graph, Item, Mask, Memory, Side, SubAsk, Tally};
 use std::alloc::Global;
 use std::collections::HashSet;
 
 /// The units of each post that has any.
 pub type Masses = Tally;
 
+/// An edge that is found by its vertex costs as much as this many interactions of a scan.
+const COST: u64 = 16;
+
 /// The units of the posts, after one half step to them, and for each further iteration one to the users and one back. The
 /// sum of the units is the same after each half step: in the end each seed user's 2^20 units stand at posts.
 ///
-/// It looks at each interaction of the window once, and at each edge three times for each half step.
+/// Where the seeds have few edges it looks at these, and for a second iteration at all ends of their posts; else it looks
+/// at each interaction of the window once. Each half step looks at each edge three times.
 pub fn subgraph<G: Graph>(alloc: Global, graph: &G, ask: &SubAsk) -> Result<Masses, Memory>
     ensures exact { IfOk result (λ masses. masses ≡ masses_of (G.shown graph.now).items ask.now) }
     ensures sum { IfOk result (λ masses. sum_of masses ≡ 1048576 * length (vertices (users_of (edges_of (G.shown graph.now).items ask.now.seeds ask.now.mask)))) }
     ensures in_range { IfOk result (λ masses. sum_of masses ≤ 1048576000) }
     ensures kept { let edges = edges_of (G.shown graph.now).items ask.now.seeds ask.now.mask in
         OnOk result ((n : ℕ) → total_after n (users_of edges) (posts_of edges) (starting (users_of edges)) ≡ 1048576 * length (vertices (users_of edges))) }
+{
+    let few = are_few(graph, ask.seeds.as_slice(), ask.mask);
+    let found = gather(alloc, graph, ask, few)?;
+    Ok(found)
+}
+
+/// The masses, by the edges of the seeds where these are few, and else by a scan.
+fn gather<G: Graph>(alloc: Global, graph: &G, ask: &SubAsk, few: bool) -> Result<Masses, Memory>
+    ensures { IfOk result (λ masses. masses ≡ masses_of (G.shown graph.now).items ask.now) }
+{
+    if few {
+        by_lists(alloc, graph, ask)
+    } else {
+        by_scan(alloc, graph, ask)
+    }
+}
+
+/// Whether the seeds have few edges beside the window.
+fn are_few<G: Graph>(graph: &G, seeds: &[u64], mask: Mask) -> bool {
+    let mut edges: u64 = 0;
+    for seed in seeds {
+        edges = edges.saturating_add(graph.count(Side::User, *seed, mask));
+    }
+    edges.saturating_mul(COST) < graph.length() - graph.base()
+}
+
+/// The masses, by the edges of the seeds.
+fn by_lists<G: Graph>(alloc: Global, graph: &G, ask: &SubAsk) -> Result<Masses, Memory>
+    ensures { IfOk result (λ masses. masses ≡ masses_of (G.shown graph.now).items ask.now) }
+{
+    let seeds = ask.seeds.as_slice();
+    let (edges, set) = user_edges(alloc, graph, seeds, ask.mask)?;
+    let users = numbered(alloc, edges.near)?;
+    let posts = numbered(alloc, edges.far)?;
+    let units = listed_units(
+        alloc,
+        graph,
+        seeds,
+        ask.mask,
+        &set,
+        &users,
+        &posts,
+        ask.iterations,
+    )?;
+    let found = masses(alloc, &posts, units.as_slice())?;
+    Ok(found)
+}
+
+/// The units at the posts after the last half step, where the edges lie by users. Those of the posts are looked up where a
+/// half step goes back.
+fn listed_units<G: Graph>(
+    alloc: Global,
+    graph: &G,
+    seeds: &[u64],
+    mask: Mask,
+    set: &HashSet<u64>,
+    users: &Vertices,
+    posts: &Vertices,
+    iterations: u32,
+) -> Result<Vec<u64>, Memory>
+    requires users { AreNumbered users.now }
+    requires posts { AreNumbered posts.now }
+    requires set { (user : ℕ) → contains nat_eq set.now user ≡ stands_in seeds.now user }
+    requires same { let edges = edges_of (G.shown graph.now).items seeds.now mask in
+        HaveSameEdges users.now.side.items posts.now.side.items (users_of edges) (posts_of edges) }
+    requires few { length users.now.names.items ≤ 1000 }
+    requires some { 0 < iterations }
+    ensures len { IfOk result (λ units. length units.items ≡ length posts.now.names.items) }
+    ensures exact { let edges = edges_of (G.shown graph.now).items seeds.now mask in
+        IfOk result (λ units. units_in posts.now.names.items units.items ≡ spread (2 * iterations - 1) (users_of edges) (posts_of edges) (starting (users_of edges))) }
+{
+    if iterations == 1 {
+        let units = units_of(alloc, users, posts, 1)?;
+        return Ok(units);
+    }
+    let back = post_edges(alloc, graph, posts.names.as_slice(), mask, set)?;
+    let back_posts = numbered(alloc, back.near)?;
+    let back_users = numbered(alloc, back.far)?;
+    let units = relaid_units(alloc, users, posts, &back_posts, &back_users, iterations)?;
+    Ok(units)
+}
+
+/// The masses, by a scan of the window.
+fn by_scan<G: Graph>(alloc: Global, graph: &G, ask: &SubAsk) -> Result<Masses, Memory>
+    ensures { IfOk result (λ masses. masses ≡ masses_of (G.shown graph.now).items ask.now) }
 {
     let (users, posts) = edges(alloc, graph, ask.seeds.as_slice(), ask.mask)?;
     let users = numbered(alloc, users)?;
@@ -112,7 +204,7 @@ fn units_of(
 }
 
 /// The units of so many users at the start.
-fn started(alloc: Global, n: usize) -> Result<Vec<u64>, Memory>
+pub fn started(alloc: Global, n: usize) -> Result<Vec<u64>, Memory>
     ensures len { IfOk result (λ v. length v.items ≡ n) }
     ensures exact { IfOk result (λ v. v.items ≡ replicate n 1048576) }
 {

@@ -39,7 +39,7 @@ fn add_name(
 }
 
 /// The number of the vertex, which is the next one where it has none yet.
-fn number_of(
+pub fn number_of(
     numbers: &mut HashMap<u64, usize>,
     names: &mut Vec<u64>,
     id: u64,

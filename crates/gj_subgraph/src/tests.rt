@@ -7,17 +7,26 @@ use std::alloc::Global;
 use std::process::Abort;
 use std::test::Fail;
 
+fn add(rt: &impl Abort, graph: &mut ListGraph, user: u64, post: u64, kind: Kind) {
+    let item = Item::make(user, post, kind, 0).expect(rt, "an interaction");
+    assert!(rt; graph.length() < 256);
+    graph.add(item);
+}
+
+// The graph of the edges, behind so many of a user who is no seed.
 fn graph_of(
     rt: &impl Abort,
     alloc: Global,
+    others: u64,
     edges: &[(u64, u64, Kind)],
 ) -> Result<ListGraph, Memory> {
-    let conf = Conf::make(16, 1).expect(rt, "16 and 1 are in range");
+    let conf = Conf::make(256, 1).expect(rt, "256 and 1 are in range");
     let mut graph = ListGraph::make(alloc, conf, 0)?;
+    for i in 0..others {
+        add(rt, &mut graph, 9, 10 + i % 3, Kind::Click);
+    }
     for (user, post, kind) in edges {
-        let item = Item::make(*user, *post, *kind, 0).expect(rt, "an interaction");
-        assert!(rt; graph.length() < 16);
-        graph.add(item);
+        add(rt, &mut graph, *user, *post, *kind);
     }
     Ok(graph)
 }
@@ -49,7 +58,6 @@ fn check(
 ) -> Result<(), Memory>
     requires { AreSeeds seeds }
 {
-    let graph = graph_of(rt, rt.alloc(), edges)?;
     let ask = SubAsk {
         seeds,
         iterations: iterations.clamp(1, 20),
@@ -58,10 +66,14 @@ fn check(
         proof: 10,
         since: 0,
     };
-    let masses = subgraph(rt.alloc(), &graph, &ask)?;
-    assert_eq!(rt; masses.pairs().count(), expected.len());
-    for (post, units) in expected {
-        assert_eq!(rt; masses.get(*post), *units, "post {post}");
+    // A scan of the window, and the ends of the vertices where the edges are few beside it.
+    for others in [0, 200] {
+        let graph = graph_of(rt, rt.alloc(), others, edges)?;
+        let masses = subgraph(rt.alloc(), &graph, &ask)?;
+        assert_eq!(rt; masses.pairs().count(), expected.len());
+        for (post, units) in expected {
+            assert_eq!(rt; masses.get(*post), *units, "post {post}");
+        }
     }
     Ok(())
 }

@@ -1,9 +1,9 @@
 -- A replay over a keeper, and the stores from which the keeper comes.
-use Rattle.std.proofs.Common.{◌≡◌, ◌⊎◌, inl, inr, ℕ, ◌∙◌, ◌+◌, ◌-◌, ◌^◌, ◌≤◌, min, max, Bool, true, false, IsTrue, List, refl, ap, sym, subst, arith}
-use Rattle.std.specs.Prelude.{Option, Some, None}
+use Rattle.std.proofs.Common.{◌≡◌, inl, inr, ℕ, ◌∙◌, ◌+◌, ◌-◌, ◌^◌, ◌≤◌, min, max, Bool, true, false, IsTrue, List, refl, ap, sym, subst, arith}
+use Rattle.std.specs.Prelude.{Some}
 use Rattle.gj_base.specs.declared.history.History.{History}
 use Rattle.gj_base.specs.declared.keeper.KeptItem.{KeptItem}
-use Rattle.gj_base.specs.Causes.{RoseBy, one_more}
+use Rattle.gj_base.specs.Causes.{RoseBy}
 use Rattle.gj_base.specs.Configuration.{Configuration}
 use Rattle.gj_base.specs.History.{StandsFor, conf_of, empty_history}
 use Rattle.gj_base.specs.Kept.{Kept}
@@ -15,10 +15,10 @@ use Rattle.gj_session.specs.Answers.{mark_at}
 use Rattle.gj_session.specs.IndexRuns.{IndexAt, IndexRan}
 use Rattle.gj_session.specs.Runs.{Exchange, Run}
 use Rattle.gj_session.specs.Streams.{Incoming, Outgoing}
-use Rattle.graphjet.specs.Replays.{Ran, Headline, OpensOver, Judges, StoresAt, Opens, Leaves, IsKept, IsJudged, Replays}
+use Rattle.graphjet.specs.Replays.{Ran, Headline, OpensOver, Judges, Replays}
 use Rattle.graphjet.specs.Statuses.{is_session}
 use Rattle.graphjet.specs.declared.run_status.RunStatus.{RunStatus}
-use Rattle.graphjet.specs.declared.run_status.RunStatus.TheVariants.{Usage, StoreFault}
+use Rattle.graphjet.specs.declared.run_status.RunStatus.TheVariants.{Usage}
 
 -- the history with which an index over a keeper begins
 pub pick_opening : (conf : Configuration) (kept : Kept) (P : History → Type 0) → ((rows : List KeptItem) × IsTrue (good conf rows) × P (opened rows))
@@ -37,21 +37,24 @@ pick_opening conf kept P rows told bare untold = by_tells kept.tells kept.bare r
 -- a run over an index is one from each history that it kept
 pub ran_from : (conf : Configuration) (opening : History) (a b : IndexAt) (left : History → Type 0) (exchanges : List Exchange)
     → conf_of a.viewed ≡ conf → StandsFor a.viewed opening → a.keeps opening → ((h : History) → b.keeps h → left h)
-    → IndexRan a b exchanges → Ran conf opening left a.faults b.faults exchanges
+    → IndexRan a b exchanges → Ran conf opening left a.faults b.faults a.steady exchanges
 ran_from conf opening a b left exchanges same stands kept ends ran = record {
   runs = λ seat.
       let x = ran.runs opening seat stands in
       let Leads : Configuration → Type 0 = λ c. Run c true seat (mark_at seat opening) (mark_at seat x.0) exchanges in
       (x.0, (subst Leads same x.1.0, ends x.0 (x.1.1.keeps kept)));
   stores = ran.stores;
+  steady = λ sure. (ran.steady sure).0;
 }
 
 -- a run, where more is known of what it left and of the counts
-pub ran_as : (conf : Configuration) (opening : History) (left left' : History → Type 0) (a b a' b' : ℕ) (exchanges : List Exchange)
-    → ((h : History) → left h → left' h) → ((n : ℕ) → RoseBy n a b → RoseBy n a' b') → Ran conf opening left a b exchanges → Ran conf opening left' a' b' exchanges
-ran_as conf opening left left' a b a' b' exchanges ends rose ran = record {
+pub ran_as : (conf : Configuration) (opening : History) (left left' : History → Type 0) (a b a' b' : ℕ) (sure sure' : Bool) (exchanges : List Exchange)
+    → ((h : History) → left h → left' h) → ((n : ℕ) → RoseBy n a b → RoseBy n a' b') → (IsTrue sure' → IsTrue sure)
+    → Ran conf opening left a b sure exchanges → Ran conf opening left' a' b' sure' exchanges
+ran_as conf opening left left' a b a' b' sure sure' exchanges ends rose still ran = record {
   runs = λ seat. (let x = ran.runs seat in (x.0, (x.1.0, ends x.0 x.1.1)));
   stores = rose _ ran.stores;
+  steady = λ s. ran.steady (still s);
 }
 
 pub rose_same : (n a b a' b' : ℕ) → a ≡ a' → b ≡ b' → RoseBy n a b → RoseBy n a' b'
@@ -70,21 +73,22 @@ keeps_home conf old new kept h told same keeps = λ yes.
     subst (λ (k : Kept). Holds conf k h) (sym is) (keeps tells)
 
 -- a replay over a keeper is one over the stores from which it came, and where it is at home again
-pub replays_home : (conf : Configuration) (path : List ℕ) (old new : Kept) (kept kept' : Kept) (f f' k k' own : ℕ) (i j : Incoming) (o p : Outgoing) (status : RunStatus)
+pub replays_home : (conf : Configuration) (path : List ℕ) (old new : Kept) (kept kept' : Kept) (f f' k k' own : ℕ) (sure sure' steady : Bool) (i j : Incoming) (o p : Outgoing) (status : RunStatus)
     → (IsTrue old.tells → kept ≡ old) → new.tells ≡ old.tells → (IsTrue old.tells → new ≡ kept')
     → f ≤ own + k → f' ≡ max f (min (own + k') (2 ^ 64 - 1))
-    → (IsTrue (is_session status) → Headline conf (OpensOver kept) (Keeps conf kept') k k' i j o p status)
+    → (IsTrue sure → IsTrue steady)
+    → (IsTrue (is_session status) → Headline conf (OpensOver kept) (Keeps conf kept') k k' steady i j o p status)
     → (is_session status ≡ false → IsLeft conf kept kept')
     → (IsTrue kept.tells → Judges (due conf kept) status) → (status ≡ Usage → ⊥)
-    → Replays conf (Some path) (record { stored = old; faults = f }) (record { stored = new; faults = f' }) i j o p status
-replays_home conf path old new kept kept' f f' k k' own i j o p status out told home known count session left judged asked = record {
+    → Replays conf (Some path) (record { stored = old; faults = f; steady = sure }) (record { stored = new; faults = f'; steady = sure' }) i j o p status
+replays_home conf path old new kept kept' f f' k k' own sure sure' steady i j o p status out told home known count still session left judged asked = record {
   session = λ s. (let h = session s in record {
     opening = h.opening;
     opened = λ yes. (let is = out yes in h.opened.told (ap (λ (x : Kept). x.tells) is ∙ yes) ∙ ap (λ (x : Kept). opened (told_rows x)) is);
     end = h.end;
     status_is = h.status_is;
     replayed = replayed_as _ _ i j o p 1099511627776 h.end
-        (λ es ran. ran_as conf h.opening (Keeps conf kept') (Keeps conf new) k k' f f' es (λ x. keeps_home conf old new kept' x told home) (λ n. rose_home n k k' f own f' known count) ran)
+        (λ es ran. ran_as conf h.opening (Keeps conf kept') (Keeps conf new) k k' f f' steady sure es (λ x. keeps_home conf old new kept' x told home) (λ n. rose_home n k k' f own f' known count) still ran)
         h.replayed;
     by_input = h.by_input;
   });

@@ -1,5 +1,5 @@
 -- What the program promises of a replay.
-use Rattle.std.specs.Prelude.{◌≡◌, ◌⊎◌, ℕ, ◌^◌, ◌<◌, ◌≤◌, true, false, IsTrue, List, length, Option, Some, None}
+use Rattle.std.specs.Prelude.{◌≡◌, ◌⊎◌, ℕ, ◌^◌, ◌<◌, ◌≤◌, Bool, true, false, IsTrue, List, length, Option, Some, None}
 use Rattle.gj_base.specs.declared.history.History.{History}
 use Rattle.gj_base.specs.Causes.{Rose, RoseBy}
 use Rattle.gj_base.specs.Configuration.{Configuration}
@@ -20,20 +20,21 @@ use Rattle.graphjet.specs.declared.run_status.RunStatus.{RunStatus}
 use Rattle.graphjet.specs.declared.run_status.RunStatus.TheVariants.{Done, Usage, ReadFault, WriteFault, StoreFault, Truncated, Memory, DoorFault, StoppedEarly, TooManyReads, ConfDiffers, KeptRow, NoPlace}
 
 -- a run alone from the opening history to one that was left; the answers by the store's fault are at most as many as the
--- rise of its count
-pub record Ran (conf : Configuration) (opening : History) (left : History → Type 0) (faults faults_after : ℕ) (exchanges : List Exchange) : Type 0 where
+-- rise of its count, and none where it is sure that no call fails
+pub record Ran (conf : Configuration) (opening : History) (left : History → Type 0) (faults faults_after : ℕ) (sure : Bool) (exchanges : List Exchange) : Type 0 where
   pub runs : (seat : ℕ) → (new : History) × (Run conf true seat (mark_at seat opening) (mark_at seat new) exchanges × left new)
   pub stores : RoseBy (stores_in exchanges) faults faults_after
+  pub steady : IsTrue sure → stores_in exchanges ≡ 0
 
 -- the headline: there is an end of which the status tells, and a run of the messages that were taken, from the opening
 -- history, whose replies are the reference replies over the retained window of the interactions that were accepted so
 -- far; and the bytes that were written are the bytes of these replies, in order
-pub record Headline (conf : Configuration) (opens left : History → Type 0) (faults faults_after : ℕ) (in_old in_new : Incoming) (out_old out_new : Outgoing) (status : RunStatus) : Type 0 where
+pub record Headline (conf : Configuration) (opens left : History → Type 0) (faults faults_after : ℕ) (sure : Bool) (in_old in_new : Incoming) (out_old out_new : Outgoing) (status : RunStatus) : Type 0 where
   pub opening : History
   pub opened : opens opening
   pub end : End
   pub status_is : status ≡ status_of_end end
-  pub replayed : Replayed (Ran conf opening left faults faults_after) in_old in_new out_old out_new 1099511627776 end
+  pub replayed : Replayed (Ran conf opening left faults faults_after sure) in_old in_new out_old out_new 1099511627776 end
   pub by_input : IsTrue in_old.tells → IsByInput end → EndsByInput in_old.stream.left end
 
 -- the history with which a session over a keeper begins: that of the rows that it tells, and the empty one where it is bare
@@ -58,13 +59,14 @@ Judges refusal Truncated = refusal ≡ None
 Judges refusal StoppedEarly = refusal ≡ None
 Judges refusal TooManyReads = refusal ≡ None
 
--- stores at one moment: what they keep, and how often a call of them failed
+-- stores at one moment: what they keep, how often a call of them failed, and whether none fails from here on
 pub record StoresAt : Type 0 where
   pub stored : Kept
   pub faults : ℕ
+  pub steady : Bool
 
-abbrev pub stores_at : Kept → ℕ → StoresAt
-stores_at stored faults = record { stored = stored; faults = faults }
+abbrev pub stores_at : Kept → ℕ → Bool → StoresAt
+stores_at stored faults steady = record { stored = stored; faults = faults; steady = steady }
 
 -- the history with which a session begins: without a store the empty one, and else that of the rows that the stores tell
 abbrev pub Opens : Option (List ℕ) → Kept → History → Type 0
@@ -81,6 +83,11 @@ abbrev pub faults_in : Option (List ℕ) → ℕ → ℕ
 faults_in None faults = 0
 faults_in (Some path) faults = faults
 
+-- whether no call of the store fails from here on; where there is no store, none is made
+abbrev pub steady_in : Option (List ℕ) → Bool → Bool
+steady_in None steady = true
+steady_in (Some path) steady = steady
+
 -- the status of an opening is right: without a store none is refused
 abbrev pub IsJudged : Option (List ℕ) → Configuration → Kept → RunStatus → Type 0
 IsJudged None conf stored status = Judges None status × (status ≡ StoreFault → ⊥)
@@ -93,7 +100,7 @@ IsKept conf old new = IsTrue old.tells → (new ≡ old) ⊎ (new ≡ prepared c
 -- a replay over a window that a store keeps or none
 pub record Replays (conf : Configuration) (store : Option (List ℕ)) (a b : StoresAt) (in_old in_new : Incoming) (out_old out_new : Outgoing) (status : RunStatus) : Type 0 where
   pub session : IsTrue (is_session status)
-      → Headline conf (Opens store a.stored) (Leaves store conf b.stored) (faults_in store a.faults) (faults_in store b.faults) in_old in_new out_old out_new status
+      → Headline conf (Opens store a.stored) (Leaves store conf b.stored) (faults_in store a.faults) (faults_in store b.faults) (steady_in store a.steady) in_old in_new out_old out_new status
   pub judged : IsJudged store conf a.stored status
   pub asked : status ≡ Usage → ⊥
   pub kept : is_session status ≡ false → IsKept conf a.stored b.stored

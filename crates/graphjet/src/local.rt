@@ -2,9 +2,10 @@
 ghost use Rattle.std.specs.Prelude.{◌≡◌, ◌≢◌, ◌⊎◌, ℕ, ◌+◌, ◌^◌, ◌<◌, ◌≤◌, ◌++◌, IsTrue, List, Option, Some, None, false, length, map, string_bytes, take};
 ghost use Rattle.gj_base.specs.Causes.{Rose};
 ghost use Rattle.gj_base.specs.Configuration.{Configuration, IsConfiguration};
+ghost use Rattle.gj_load.specs.Totals.{totals_of};
 ghost use Rattle.gj_session.specs.Streams.{incoming, outgoing};
 ghost use Rattle.gj_words.specs.Tasks.{Load, Replay, asked_of};
-ghost use Rattle.graphjet.specs.Lines.{line_of};
+ghost use Rattle.graphjet.specs.Lines.{line_of, summary_of};
 ghost use Rattle.graphjet.specs.Replays.{Causes, stores_at};
 ghost use Rattle.graphjet.specs.Runs.{Does, Obeys};
 ghost use Rattle.graphjet.specs.Statuses.{is_session};
@@ -37,7 +38,7 @@ fn obey<S: Source, O: Sink, P: Keepers>(
 ) -> RunStatus
     requires { IsTrue (P.home stores.old) }
     ensures does { Does (asked_of (map (λ w. string_bytes w) words.now))
-        (stores_at (P.stored stores.old) (P.faults stores.old)) (stores_at (P.stored stores.new) (P.faults stores.new))
+        (stores_at (P.stored stores.old) (P.faults stores.old) (P.steady stores.old)) (stores_at (P.stored stores.new) (P.faults stores.new) (P.steady stores.new))
         (incoming (S.tells input.old) (S.stream input.old) (S.faults input.old) (S.reads input.old))
         (incoming (S.tells input.new) (S.stream input.new) (S.faults input.new) (S.reads input.new))
         (outgoing (O.tells out.old) (O.written out.old) (O.faults out.old) (O.sure out.old))
@@ -51,7 +52,10 @@ fn obey<S: Source, O: Sink, P: Keepers>(
         (outgoing (O.tells out.new) (O.written out.new) (O.faults out.new) (O.sure out.new)) (S.steady input.old) result }
     ensures room { (conf : Configuration) (store : Option (List ℕ)) → asked_of (map (λ w. string_bytes w) words.now) ≡ Some (Replay conf store)
         → IsTrue (O.tells out.old) → result ≡ statuses.WriteFault → O.sure out.old + length (O.written out.old) ≤ length (O.written out.new) }
+    ensures load_room { (conf : Configuration) (number count : ℕ) → asked_of (map (λ w. string_bytes w) words.now) ≡ Some (Load conf number count)
+        → result ≡ statuses.WriteFault → O.sure out.old < length (summary_of (totals_of conf number count)) }
     ensures store_cause { result ≡ statuses.StoreFault → Rose (P.faults stores.old) (P.faults stores.new) }
+    ensures store_steady { IsTrue (P.steady stores.old) → (result ≢ statuses.StoreFault) × IsTrue (P.steady stores.new) }
     ensures home { IsTrue (P.home stores.new) }
     ensures later { P.faults stores.old ≤ P.faults stores.new }
     ensures elsewhere { ((conf : Configuration) (path : List ℕ) → asked_of (map (λ w. string_bytes w) words.now) ≡ Some (Replay conf (Some path)) → ⊥) → stores.new ≡ stores.old }
@@ -105,7 +109,7 @@ pub fn run_local<S: Source, O: Sink, E: Sink, P: Keepers>(
 
     // What was asked for was done, and told on `err`.
     ensures obeys { Obeys (asked_of (map (λ w. string_bytes w) words.now))
-        (stores_at (P.stored stores.old) (P.faults stores.old)) (stores_at (P.stored stores.new) (P.faults stores.new))
+        (stores_at (P.stored stores.old) (P.faults stores.old) (P.steady stores.old)) (stores_at (P.stored stores.new) (P.faults stores.new) (P.steady stores.new))
         (incoming (S.tells input.old) (S.stream input.old) (S.faults input.old) (S.reads input.old))
         (incoming (S.tells input.new) (S.stream input.new) (S.faults input.new) (S.reads input.new))
         (outgoing (O.tells out.old) (O.written out.old) (O.faults out.old) (O.sure out.old))
@@ -119,11 +123,14 @@ pub fn run_local<S: Source, O: Sink, E: Sink, P: Keepers>(
     ensures write_cause { result ≡ 4 → Rose (O.faults out.old) (O.faults out.new) }
     ensures store_cause { result ≡ 5 → Rose (P.faults stores.old) (P.faults stores.new) }
 
-    // What doesn't come: a fault of a source that fails no more, a fault of a sink before a replay has spent its room, and
-    // too many reads of fewer than 2^40 bytes.
+    // What doesn't come: a fault of a source or of stores that fail no more, a fault of a sink before a replay has spent its
+    // room or with room for a summary, and too many reads of fewer than 2^40 bytes.
     ensures steady { S.steady input.old → result ≢ 3 }
+    ensures store_steady { IsTrue (P.steady stores.old) → (result ≢ 5) × IsTrue (P.steady stores.new) }
     ensures room { (conf : Configuration) (store : Option (List ℕ)) → asked_of (map (λ w. string_bytes w) words.now) ≡ Some (Replay conf store)
         → IsTrue (O.tells out.old) → result ≡ 4 → O.sure out.old + length (O.written out.old) ≤ length (O.written out.new) }
+    ensures load_room { (conf : Configuration) (number count : ℕ) → asked_of (map (λ w. string_bytes w) words.now) ≡ Some (Load conf number count)
+        → result ≡ 4 → O.sure out.old < length (summary_of (totals_of conf number count)) }
     ensures short { IsTrue (S.tells input.old) → length (S.stream input.old).left < 2 ^ 40 → result ≢ 10 }
 
     // What stays: the streams where no session ran and no summary was written, and stores that were not asked for.

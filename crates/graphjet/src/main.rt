@@ -6,7 +6,6 @@ mod arguments;
 mod devices;
 #[cfg(test)]
 mod edge_tests;
-mod graph;
 mod lines;
 mod loading;
 mod local;
@@ -19,6 +18,8 @@ mod serving;
 mod store_tests;
 #[cfg(test)]
 mod tests;
+#[cfg(test)]
+mod window_tests;
 
 use crate::arguments::words_of;
 use crate::devices::{StreamSink, StreamSource};

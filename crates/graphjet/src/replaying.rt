@@ -9,10 +9,11 @@ ghost use Rattle.graphjet.specs.Statuses.{is_session};
 ghost use Rattle.graphjet.specs.declared.run_status.RunStatus.TheVariants as statuses;
 
 use crate::run_status::{RunStatus, status_of, status_of_refusal};
-use gj_base::{Conf, Grow, KeepError, Keeper, Keepers, ListGraph, Memory, Sink, Source};
+use gj_base::{Conf, Grow, KeepError, Keeper, Keepers, Memory, Sink, Source};
 use gj_http::{Framer, Routes};
 use gj_keep::{Local, NoKeeper, OpenRefused};
 use gj_session::replay_session;
+use gj_window::Window;
 use std::alloc::Global;
 
 /// The most reads of a session.
@@ -49,7 +50,7 @@ fn replay_over<K: Keeper, W: Grow + Drop, S: Source, O: Sink>(
     out: &mut O,
 ) -> Over<K>
     ensures session { IsTrue (is_session result.status)
-        → Headline conf (OpensOver (K.kept keeper)) (Keeps conf (K.kept result.keeper)) (K.faults keeper) (K.faults result.keeper)
+        → Headline conf (OpensOver (K.kept keeper)) (Keeps conf (K.kept result.keeper)) (K.faults keeper) (K.faults result.keeper) (K.steady keeper)
         (incoming (S.tells input.old) (S.stream input.old) (S.faults input.old) (S.reads input.old))
         (incoming (S.tells input.new) (S.stream input.new) (S.faults input.new) (S.reads input.new))
         (outgoing (O.tells out.old) (O.written out.old) (O.faults out.old) (O.sure out.old))
@@ -64,6 +65,7 @@ fn replay_over<K: Keeper, W: Grow + Drop, S: Source, O: Sink>(
 
     // The causes of faults.
     ensures store_cause { result.status ≡ statuses.StoreFault → K.faults result.keeper ≡ one_more (K.faults keeper) }
+    ensures store_steady { IsTrue (K.steady keeper) → (result.status ≢ statuses.StoreFault) × IsTrue (K.steady result.keeper) }
     ensures causes { Causes
         (incoming (S.tells input.old) (S.stream input.old) (S.faults input.old) (S.reads input.old))
         (incoming (S.tells input.new) (S.stream input.new) (S.faults input.new) (S.reads input.new))
@@ -108,7 +110,7 @@ fn replay_bare<S: Source, O: Sink>(
         (outgoing (O.tells out.new) (O.written out.new) (O.faults out.new) (O.sure out.new)) (S.steady input.old) result }
     ensures room { IsTrue (O.tells out.old) → result ≡ statuses.WriteFault → O.sure out.old + length (O.written out.old) ≤ length (O.written out.new) }
 {
-    let Over { keeper: _, status } = replay_over::<NoKeeper, ListGraph, S, O>(
+    let Over { keeper: _, status } = replay_over::<NoKeeper, Window, S, O>(
         alloc, conf, NoKeeper, tools, input, out,
     );
     status
@@ -128,7 +130,7 @@ fn replay_stored<P: Keepers, S: Source, O: Sink>(
     stores: &mut P,
 ) -> RunStatus
     requires { IsTrue (P.home stores.old) }
-    ensures does { Replays conf (Some path.now) (stores_at (P.stored stores.old) (P.faults stores.old)) (stores_at (P.stored stores.new) (P.faults stores.new))
+    ensures does { Replays conf (Some path.now) (stores_at (P.stored stores.old) (P.faults stores.old) (P.steady stores.old)) (stores_at (P.stored stores.new) (P.faults stores.new) (P.steady stores.new))
         (incoming (S.tells input.old) (S.stream input.old) (S.faults input.old) (S.reads input.old))
         (incoming (S.tells input.new) (S.stream input.new) (S.faults input.new) (S.reads input.new))
         (outgoing (O.tells out.old) (O.written out.old) (O.faults out.old) (O.sure out.old))
@@ -137,6 +139,7 @@ fn replay_stored<P: Keepers, S: Source, O: Sink>(
     ensures home { IsTrue (P.home stores.new) }
     ensures later { P.faults stores.old ≤ P.faults stores.new }
     ensures store_cause { result ≡ statuses.StoreFault → Rose (P.faults stores.old) (P.faults stores.new) }
+    ensures store_steady { IsTrue (P.steady stores.old) → (result ≢ statuses.StoreFault) × IsTrue (P.steady stores.new) }
     ensures causes { Causes
         (incoming (S.tells input.old) (S.stream input.old) (S.faults input.old) (S.reads input.old))
         (incoming (S.tells input.new) (S.stream input.new) (S.faults input.new) (S.reads input.new))
@@ -148,7 +151,7 @@ fn replay_stored<P: Keepers, S: Source, O: Sink>(
         Err(KeepError::Failed) => RunStatus::StoreFault,
         Err(KeepError::Memory) => RunStatus::Memory,
         Ok(keeper) => {
-            let Over { keeper, status } = replay_over::<P::Kept, ListGraph, S, O>(
+            let Over { keeper, status } = replay_over::<P::Kept, Window, S, O>(
                 alloc, conf, keeper, tools, input, out,
             );
             stores.take_back(keeper);
@@ -168,7 +171,7 @@ pub fn replay<P: Keepers, S: Source, O: Sink>(
     stores: &mut P,
 ) -> RunStatus
     requires { IsTrue (P.home stores.old) }
-    ensures does { Replays conf (option_map (λ path. path.now) store.entry) (stores_at (P.stored stores.old) (P.faults stores.old)) (stores_at (P.stored stores.new) (P.faults stores.new))
+    ensures does { Replays conf (option_map (λ path. path.now) store.entry) (stores_at (P.stored stores.old) (P.faults stores.old) (P.steady stores.old)) (stores_at (P.stored stores.new) (P.faults stores.new) (P.steady stores.new))
         (incoming (S.tells input.old) (S.stream input.old) (S.faults input.old) (S.reads input.old))
         (incoming (S.tells input.new) (S.stream input.new) (S.faults input.new) (S.reads input.new))
         (outgoing (O.tells out.old) (O.written out.old) (O.faults out.old) (O.sure out.old))
@@ -177,6 +180,7 @@ pub fn replay<P: Keepers, S: Source, O: Sink>(
     ensures home { IsTrue (P.home stores.new) }
     ensures later { P.faults stores.old ≤ P.faults stores.new }
     ensures store_cause { result ≡ statuses.StoreFault → Rose (P.faults stores.old) (P.faults stores.new) }
+    ensures store_steady { IsTrue (P.steady stores.old) → (result ≢ statuses.StoreFault) × IsTrue (P.steady stores.new) }
     ensures elsewhere { store.entry ≡ None → stores.new ≡ stores.old }
     ensures causes { Causes
         (incoming (S.tells input.old) (S.stream input.old) (S.faults input.old) (S.reads input.old))

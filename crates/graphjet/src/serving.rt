@@ -12,7 +12,6 @@ ghost use Rattle.graphjet.specs.Replays.{StoresAt, stores_at};
 ghost use Rattle.graphjet.specs.Serves.{Accepts, DoesServe, IsTurnedAway, IsUntaken, ObeysServe, Serves, plan_of, status_of_service};
 ghost use Rattle.graphjet.specs.declared.run_status.RunStatus.TheVariants as statuses;
 
-use crate::graph::ServedGraph;
 use crate::local::report;
 use crate::run_status::{RunStatus, status_of_refusal};
 use gj_base::{Conf, KeepError, Keeper, Keepers, Sink};
@@ -20,6 +19,7 @@ use gj_keep::{NoKeeper, OpenError};
 use gj_publish::Grants;
 use gj_serve::Door;
 use gj_service::{Over, Plan, ServiceEnd, serve_over};
+use gj_window::Window;
 use gj_words::{Service, WordsError, read_service};
 use std::alloc::Global;
 use std::sync::Wait;
@@ -108,9 +108,7 @@ fn serve_bare<R: Threads + Wait + Copy + Drop + Send + Sync, D: Door + Send, O: 
         entered: _,
         keeper: _,
         door,
-    } = serve_over::<R, D, NoKeeper, ServedGraph, O>(
-        rt, alloc, conf, NoKeeper, plan, door, out, grants,
-    );
+    } = serve_over::<R, D, NoKeeper, Window, O>(rt, alloc, conf, NoKeeper, plan, door, out, grants);
     Closed { end, door }
 }
 
@@ -162,7 +160,7 @@ where
                 entered: _,
                 keeper,
                 door,
-            } = serve_over::<R, D, P::Kept, ServedGraph, O>(
+            } = serve_over::<R, D, P::Kept, Window, O>(
                 rt, alloc, conf, keeper, plan, door, out, grants,
             );
             stores.take_back(keeper);

@@ -116,6 +116,25 @@ fn a_refused_opening_is_told(rt: HostRuntime) -> Result<(), Fail> {
 }
 
 #[test]
+fn a_later_version_is_refused(rt: HostRuntime) -> Result<(), Fail> {
+    let alloc = rt.alloc();
+    let conf = KeptConf {
+        version: 3,
+        capacity: 16,
+        segments: 2,
+    };
+    let later = stores_of(alloc, Some(conf), Vec::new(alloc), Vec::new(alloc));
+    let line = "replay --store s --segments 2 --capacity 16";
+    let (status, err) = refused(alloc, line, later)?;
+    assert_eq!(rt; status, 11);
+    assert_eq!(rt;
+        err.written(),
+        b"kept version 3 capacity 16 segments 2, asked version 2 capacity 16 segments 2\n".as_slice()
+    );
+    Ok(())
+}
+
+#[test]
 fn a_load_writes_eight_lines(rt: HostRuntime) -> Result<(), Fail> {
     let alloc = rt.alloc();
     let mut stores = stores_of(alloc, None, Vec::new(alloc), Vec::new(alloc));

@@ -1,4 +1,4 @@
-use Rattle.std.proofs.Common.{◌≡◌, ◌∙◌, ◌++◌, ap, codes, append_assoc, List, ℕ}
+use Rattle.std.proofs.Common.{◌∙◌, ◌++◌, ap, codes, append_assoc, List, ℕ}
 use Rattle.graphjet.specs.Lines.{conf_text, kept_line}
 use Rattle.graphjet.proofs.lines.differing.Goals as goal
 

@@ -1,4 +1,4 @@
-use Rattle.std.proofs.Common.{◌≡◌, ◌∙◌, inl, ap, sym, subst, refl, arith}
+use Rattle.std.proofs.Common.{inl, refl, arith}
 use Rattle.gj_session.proofs.LoopLemmas.{replayed_as}
 use Rattle.graphjet.proofs.ReplayLemmas.{ran_as}
 use Rattle.graphjet.proofs.replaying.replay_bare.Goals as goal
@@ -11,7 +11,7 @@ returns-clause-does g c = λ a. let over = c.replay_over-status.ensures in recor
     end = h.end;
     status_is = h.status_is;
     replayed = replayed_as _ _ _ _ _ _ _ _
-        (λ es ran. ran_as c.args.conf h.opening _ _ _ _ 0 0 es (λ x k. tt) (λ n rose. rose) ran)
+        (λ es ran. ran_as c.args.conf h.opening _ _ _ _ 0 0 _ _ es (λ x k. tt) (λ n rose. rose) (λ s. s) ran)
         h.replayed;
     by_input = h.by_input;
   });

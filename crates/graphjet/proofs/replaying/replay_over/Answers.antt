@@ -1,7 +1,6 @@
-use Rattle.std.proofs.Common.{◌≡◌, ◌∙◌, ap, sym, subst}
+use Rattle.std.proofs.Common.{◌≡◌, ◌∙◌, sym, subst}
 use Rattle.gj_base.specs.declared.history.History.{History}
 use Rattle.gj_base.specs.Configuration.{Configuration}
-use Rattle.gj_base.specs.History.{conf_of}
 use Rattle.gj_keep.specs.Books.{Keeps}
 use Rattle.gj_keep.specs.Locals.{LocalKeeps}
 use Rattle.gj_session.proofs.LoopLemmas.{replayed_as}
@@ -26,8 +25,8 @@ returns-in-Ok-clause-session g c = λ session.
       end = c.replay_session-end.result;
       status_is = c.status_of.ensures;
       replayed = replayed_as _ _ _ _ _ _ _ _
-          (λ es ran. ran_as conf at.0 (Keeps conf left) (Keeps conf left) index.book.faults after.book.faults _ _ es (λ h k. k)
-          (λ n. rose_same n index.book.faults after.book.faults _ _ made.count (sym c.into_keeper.ensures.same.1))
+          (λ es ran. ran_as conf at.0 (Keeps conf left) (Keeps conf left) index.book.faults after.book.faults _ _ index.book.steady _ es (λ h k. k)
+          (λ n. rose_same n index.book.faults after.book.faults _ _ made.count (sym c.into_keeper.ensures.same.1)) made.steady
           (ran_from conf at.0 _ _ (Keeps conf left) es made.conf.1 at.1.0.0 at.1.0 keeps ran))
           c.replay_session-end.ensures.replayed;
       by_input = c.replay_session-end.ensures.by_input;

@@ -1,4 +1,4 @@
-use Rattle.std.proofs.Common.{◌≡◌, ◌∙◌, ◌≤◌, ◌+◌, ◌-◌, ◌^◌, min, max, IsTrue, ap, sym, subst, refl, arith}
+use Rattle.std.proofs.Common.{◌≡◌, ◌∙◌, ◌≤◌, ◌+◌, ◌-◌, ◌^◌, min, max, IsTrue, ap, arith}
 use Rattle.gj_base.specs.Kept.{Kept}
 use Rattle.graphjet.proofs.ReplayLemmas.{replays_home}
 use Rattle.graphjet.proofs.replaying.replay_stored.Goals as goal
@@ -21,5 +21,5 @@ returns-in-Ok-clause-does g c =
     let k' = g.P.Kept.Keeper.faults c.replay_over-keeper.result.keeper in
     let known : f ≤ own + k = omega (arith, out.known, out.count) in
     let count : f' ≡ max f (min (own + k') (2 ^ 64 - 1)) = omega (arith, out.count, c.take_back.ensures.count) in
-    replays_home c.args.conf c.args.path.now old new (g.P.Kept.Keeper.kept c.in-Ok.keeper) kept' f f' k k' own _ _ _ _ c.replay_over-keeper.result.status
-    out.same told home known count over.session over.left over.judged over.asked
+    replays_home c.args.conf c.args.path.now old new (g.P.Kept.Keeper.kept c.in-Ok.keeper) kept' f f' k k' own (g.P.Keepers.steady c.args.stores.now) (g.P.Keepers.steady c.take_back.new.self) (g.P.Kept.Keeper.steady c.in-Ok.keeper) _ _ _ _ c.replay_over-keeper.result.status
+    out.same told home known count (λ sure. (out.steady sure).2) over.session over.left over.judged over.asked

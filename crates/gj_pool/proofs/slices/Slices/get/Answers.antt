@@ -26,10 +26,10 @@ overflow_add-start c =
     let within : c.args.v < length rows = omega (arith, c.requires.in_range, ap length seen, length-map rows (view_of cells)) in
     let list : cells_of c.args.self.now.lists c.args.v ≡ view_of cells row = held_row rows cells c.args.self.now.lists c.args.v row seen within c.index-row.ensures in
     let held : i < row.degree = omega (arith, c.requires.held, ap length list, length-row cells row.first row.degree) in
-    let place : IsPlace cells row.first row.degree i = place_held rows cells c.self.inside.used c.args.v i row c.self.invariant within c.index-row.ensures held in
+    let place : IsPlace cells row.first row.degree i = place_held rows cells c.self.inside.used c.args.v i row c.self.invariant.0 within c.index-row.ensures held in
     let m : ℕ = c.loop-link.link - 1 in
     let on_way : m < slice_of i = omega (arith, c.loop-link.auto.link, c.loop-link-test.true, c.links_to-link-end.ensures, ap (λ n. hops_to (n + 2)) c.from.ensures, place.slice) in
-    let way : IsLink cells row.first i m = link_on_way rows cells c.self.inside.used c.args.v i m row c.self.invariant within c.index-row.ensures held on_way in
+    let way : IsLink cells row.first i m = link_on_way rows cells c.self.inside.used c.args.v i m row c.self.invariant.0 within c.index-row.ensures held on_way in
     omega (arith, way.small, c.loop-link.invariant.start, c.loop-link.invariant.size)
 
 pub index-requires : goal.index-requires
@@ -42,10 +42,10 @@ index-requires c =
     let within : c.args.v < length rows = omega (arith, c.requires.in_range, ap length seen, length-map rows (view_of cells)) in
     let list : cells_of c.args.self.now.lists c.args.v ≡ view_of cells row = held_row rows cells c.args.self.now.lists c.args.v row seen within c.index-row.ensures in
     let held : i < row.degree = omega (arith, c.requires.held, ap length list, length-row cells row.first row.degree) in
-    let place : IsPlace cells row.first row.degree i = place_held rows cells c.self.inside.used c.args.v i row c.self.invariant within c.index-row.ensures held in
+    let place : IsPlace cells row.first row.degree i = place_held rows cells c.self.inside.used c.args.v i row c.self.invariant.0 within c.index-row.ensures held in
     let m : ℕ = c.loop-link.link - 1 in
     let on_way : m < slice_of i = omega (arith, c.loop-link.auto.link, c.loop-link-test.true, c.links_to-link-end.ensures, ap (λ n. hops_to (n + 2)) c.from.ensures, place.slice) in
-    let way : IsLink cells row.first i m = link_on_way rows cells c.self.inside.used c.args.v i m row c.self.invariant within c.index-row.ensures held on_way in
+    let way : IsLink cells row.first i m = link_on_way rows cells c.self.inside.used c.args.v i m row c.self.invariant.0 within c.index-row.ensures held on_way in
     omega (arith, way.within, c.loop-link.invariant.start, c.loop-link.invariant.size, c.self.inside.cells.ok)
 
 pub overflow_mul-size : goal.overflow_mul-size
@@ -58,10 +58,10 @@ overflow_mul-size c =
     let within : c.args.v < length rows = omega (arith, c.requires.in_range, ap length seen, length-map rows (view_of cells)) in
     let list : cells_of c.args.self.now.lists c.args.v ≡ view_of cells row = held_row rows cells c.args.self.now.lists c.args.v row seen within c.index-row.ensures in
     let held : i < row.degree = omega (arith, c.requires.held, ap length list, length-row cells row.first row.degree) in
-    let place : IsPlace cells row.first row.degree i = place_held rows cells c.self.inside.used c.args.v i row c.self.invariant within c.index-row.ensures held in
+    let place : IsPlace cells row.first row.degree i = place_held rows cells c.self.inside.used c.args.v i row c.self.invariant.0 within c.index-row.ensures held in
     let m : ℕ = c.loop-link.link - 1 in
     let on_way : m < slice_of i = omega (arith, c.loop-link.auto.link, c.loop-link-test.true, c.links_to-link-end.ensures, ap (λ n. hops_to (n + 2)) c.from.ensures, place.slice) in
-    let way : IsLink cells row.first i m = link_on_way rows cells c.self.inside.used c.args.v i m row c.self.invariant within c.index-row.ensures held on_way in
+    let way : IsLink cells row.first i m = link_on_way rows cells c.self.inside.used c.args.v i m row c.self.invariant.0 within c.index-row.ensures held on_way in
     omega (arith, way.size, c.loop-link.invariant.size, c.ranges.i)
 
 pub loop-link-preserved : goal.loop-link-preserved
@@ -74,10 +74,10 @@ loop-link-preserved c =
     let within : c.args.v < length rows = omega (arith, c.requires.in_range, ap length seen, length-map rows (view_of cells)) in
     let list : cells_of c.args.self.now.lists c.args.v ≡ view_of cells row = held_row rows cells c.args.self.now.lists c.args.v row seen within c.index-row.ensures in
     let held : i < row.degree = omega (arith, c.requires.held, ap length list, length-row cells row.first row.degree) in
-    let place : IsPlace cells row.first row.degree i = place_held rows cells c.self.inside.used c.args.v i row c.self.invariant within c.index-row.ensures held in
+    let place : IsPlace cells row.first row.degree i = place_held rows cells c.self.inside.used c.args.v i row c.self.invariant.0 within c.index-row.ensures held in
     let m : ℕ = c.loop-link.link - 1 in
     let on_way : m < slice_of i = omega (arith, c.loop-link.auto.link, c.loop-link-test.true, c.links_to-link-end.ensures, ap (λ n. hops_to (n + 2)) c.from.ensures, place.slice) in
-    let way : IsLink cells row.first i m = link_on_way rows cells c.self.inside.used c.args.v i m row c.self.invariant within c.index-row.ensures held on_way in
+    let way : IsLink cells row.first i m = link_on_way rows cells c.self.inside.used c.args.v i m row c.self.invariant.0 within c.index-row.ensures held on_way in
     let next : c.loop-link.link + 1 - 1 ≡ suc m = omega (arith, c.loop-link.auto.link) in
     let at : c.loop-link.start + c.loop-link.size ≡ slice_start cells row.first m + slice_size m = omega (arith, c.loop-link.invariant.start, c.loop-link.invariant.size) in
     record {
@@ -96,7 +96,7 @@ overflow_sub-i c =
     let within : c.args.v < length rows = omega (arith, c.requires.in_range, ap length seen, length-map rows (view_of cells)) in
     let list : cells_of c.args.self.now.lists c.args.v ≡ view_of cells row = held_row rows cells c.args.self.now.lists c.args.v row seen within c.index-row.ensures in
     let held : i < row.degree = omega (arith, c.requires.held, ap length list, length-row cells row.first row.degree) in
-    let place : IsPlace cells row.first row.degree i = place_held rows cells c.self.inside.used c.args.v i row c.self.invariant within c.index-row.ensures held in
+    let place : IsPlace cells row.first row.degree i = place_held rows cells c.self.inside.used c.args.v i row c.self.invariant.0 within c.index-row.ensures held in
     let last : c.loop-link.link - 1 ≡ slice_of i = omega (arith, c.loop-link.auto.link-end, c.loop-link-test.false, c.links_to-link-end.ensures, ap (λ n. hops_to (n + 2)) c.from.ensures, place.slice) in
     let start : c.loop-link.start ≡ slice_start cells row.first (slice_of i) = c.loop-link.invariant.start ∙ ap (slice_start cells row.first) last in
     let size : c.loop-link.size ≡ slice_size (slice_of i) = c.loop-link.invariant.size ∙ ap slice_size last in
@@ -112,7 +112,7 @@ overflow_add-start-2 c =
     let within : c.args.v < length rows = omega (arith, c.requires.in_range, ap length seen, length-map rows (view_of cells)) in
     let list : cells_of c.args.self.now.lists c.args.v ≡ view_of cells row = held_row rows cells c.args.self.now.lists c.args.v row seen within c.index-row.ensures in
     let held : i < row.degree = omega (arith, c.requires.held, ap length list, length-row cells row.first row.degree) in
-    let place : IsPlace cells row.first row.degree i = place_held rows cells c.self.inside.used c.args.v i row c.self.invariant within c.index-row.ensures held in
+    let place : IsPlace cells row.first row.degree i = place_held rows cells c.self.inside.used c.args.v i row c.self.invariant.0 within c.index-row.ensures held in
     let last : c.loop-link.link - 1 ≡ slice_of i = omega (arith, c.loop-link.auto.link-end, c.loop-link-test.false, c.links_to-link-end.ensures, ap (λ n. hops_to (n + 2)) c.from.ensures, place.slice) in
     let start : c.loop-link.start ≡ slice_start cells row.first (slice_of i) = c.loop-link.invariant.start ∙ ap (slice_start cells row.first) last in
     let size : c.loop-link.size ≡ slice_size (slice_of i) = c.loop-link.invariant.size ∙ ap slice_size last in
@@ -128,7 +128,7 @@ index-requires-2 c =
     let within : c.args.v < length rows = omega (arith, c.requires.in_range, ap length seen, length-map rows (view_of cells)) in
     let list : cells_of c.args.self.now.lists c.args.v ≡ view_of cells row = held_row rows cells c.args.self.now.lists c.args.v row seen within c.index-row.ensures in
     let held : i < row.degree = omega (arith, c.requires.held, ap length list, length-row cells row.first row.degree) in
-    let place : IsPlace cells row.first row.degree i = place_held rows cells c.self.inside.used c.args.v i row c.self.invariant within c.index-row.ensures held in
+    let place : IsPlace cells row.first row.degree i = place_held rows cells c.self.inside.used c.args.v i row c.self.invariant.0 within c.index-row.ensures held in
     let last : c.loop-link.link - 1 ≡ slice_of i = omega (arith, c.loop-link.auto.link-end, c.loop-link-test.false, c.links_to-link-end.ensures, ap (λ n. hops_to (n + 2)) c.from.ensures, place.slice) in
     let start : c.loop-link.start ≡ slice_start cells row.first (slice_of i) = c.loop-link.invariant.start ∙ ap (slice_start cells row.first) last in
     let size : c.loop-link.size ≡ slice_size (slice_of i) = c.loop-link.invariant.size ∙ ap slice_size last in
@@ -144,7 +144,7 @@ returns c =
     let within : c.args.v < length rows = omega (arith, c.requires.in_range, ap length seen, length-map rows (view_of cells)) in
     let list : cells_of c.args.self.now.lists c.args.v ≡ view_of cells row = held_row rows cells c.args.self.now.lists c.args.v row seen within c.index-row.ensures in
     let held : i < row.degree = omega (arith, c.requires.held, ap length list, length-row cells row.first row.degree) in
-    let place : IsPlace cells row.first row.degree i = place_held rows cells c.self.inside.used c.args.v i row c.self.invariant within c.index-row.ensures held in
+    let place : IsPlace cells row.first row.degree i = place_held rows cells c.self.inside.used c.args.v i row c.self.invariant.0 within c.index-row.ensures held in
     let last : c.loop-link.link - 1 ≡ slice_of i = omega (arith, c.loop-link.auto.link-end, c.loop-link-test.false, c.links_to-link-end.ensures, ap (λ n. hops_to (n + 2)) c.from.ensures, place.slice) in
     let start : c.loop-link.start ≡ slice_start cells row.first (slice_of i) = c.loop-link.invariant.start ∙ ap (slice_start cells row.first) last in
     let size : c.loop-link.size ≡ slice_size (slice_of i) = c.loop-link.invariant.size ∙ ap slice_size last in

@@ -6,8 +6,8 @@ use Rattle.gj_pool.proofs.slices.Slices.new.Goals as goal
 pub invariant_of-result : goal.invariant_of-result
 invariant_of-result c =
     let alike = c.in-Ok.ensures.items_if_clones_equal (λ y e. e) in
-    no_slices c.in-Ok.rows.items c.in-Ok-vec.cells.items (omega (arith, c.in-Ok-vec.ensures.len, c.in-Ok-vec.cells.ok, c.requires.limit))
-    (none_alike c.in-Ok.rows.items c.args.vertices _ alike refl refl)
+    let none = none_alike c.in-Ok.rows.items c.args.vertices _ alike refl refl in
+    (no_slices c.in-Ok.rows.items c.in-Ok-vec.cells.items (omega (arith, c.in-Ok-vec.ensures.len, c.in-Ok-vec.cells.ok, c.requires.limit)) none, record { within = omega arith; rest = λ v d from within. none v d within })
 
 pub returns-in-Ok-vec-clause-lists : goal.returns-in-Ok-vec-clause-lists
 returns-in-Ok-vec-clause-lists c =

@@ -2,6 +2,7 @@ use Rattle.std.proofs.Common.{◌≡◌, ◌<◌, ◌≤◌, ℕ, ◌+◌, List,
 use Rattle.std.proofs.lemmas.List.{length-map, length-set}
 use Rattle.gj_pool.specs.declared.slices.Row.{Row}
 use Rattle.gj_pool.proofs.RowLemmas.{view_of, put_lists}
+use Rattle.gj_pool.proofs.BeginLemmas.{from_set}
 use Rattle.gj_pool.proofs.PushLemmas.{Readies, link_within, made_ready, grows, next_fits, slice_fits, slices_pushed, sliced}
 use Rattle.gj_pool.proofs.slices.Slices.push.Goals as goal
 
@@ -12,7 +13,7 @@ ready-row-requires-clause-linked c full some =
     let within : c.args.v < length rows = omega (arith, c.requires, ap (λ s. length s.lists) c.self.view_is, length-map rows (view_of cells)) in
     let seen : map (view_of cells) rows ≡ c.args.self.now.lists = ap (λ s. s.lists) c.self.view_is in
     let room : length cells ≡ c.args.self.now.room = ap (λ s. s.room) c.self.view_is in
-    let lt : c.index.result.now.next < length cells = link_within rows cells c.self.inside.used c.args.v c.index.result.now c.self.invariant within c.index.ensures full some in
+    let lt : c.index.result.now.next < length cells = link_within rows cells c.self.inside.used c.args.v c.index.result.now c.self.invariant.0 within c.index.ensures full some in
     omega (arith, c.self.inside.cells.ok)
 
 pub ready-row-requires-clause-room : goal.ready-row-requires-clause-room
@@ -22,7 +23,7 @@ ready-row-requires-clause-room c full =
     let within : c.args.v < length rows = omega (arith, c.requires, ap (λ s. length s.lists) c.self.view_is, length-map rows (view_of cells)) in
     let seen : map (view_of cells) rows ≡ c.args.self.now.lists = ap (λ s. s.lists) c.self.view_is in
     let room : length cells ≡ c.args.self.now.room = ap (λ s. s.room) c.self.view_is in
-    let le = slice_fits rows cells c.self.inside.used c.args.v c.args.cell c.index.result.now c.args.self.now.lists c.self.invariant within c.index.ensures seen (omega (arith, c.requires.room, room)) full in
+    let le = slice_fits rows cells c.self.inside.used c.args.v c.args.cell c.index.result.now c.args.self.now.lists c.self.invariant.0 within c.index.ensures seen (omega (arith, c.requires.room, room)) full in
     omega (arith, le, c.self.inside.cells.ok)
 
 pub index_mut-requires : goal.index_mut-requires
@@ -39,7 +40,7 @@ index_mut-requires c =
       linked = c.ready-row.ensures.linked;
     } in
     let lt = next_fits rows cells c.ready-row.new.cells.items c.self.inside.used c.ready-row.new.used c.args.v c.args.cell c.index.result.now c.ready-row.result c.args.self.now.lists
-    c.self.invariant within c.index.ensures how seen (omega (arith, c.requires.room, room)) in
+    c.self.invariant.0 within c.index.ensures how seen (omega (arith, c.requires.room, room)) in
     omega (arith, lt.0, c.ready-row.new.cells.ok)
 
 pub overflow_add-row-2 : goal.overflow_add-row-2
@@ -56,7 +57,7 @@ overflow_add-row-2 c =
       linked = c.ready-row.ensures.linked;
     } in
     let lt = next_fits rows cells c.ready-row.new.cells.items c.self.inside.used c.ready-row.new.used c.args.v c.args.cell c.index.result.now c.ready-row.result c.args.self.now.lists
-    c.self.invariant within c.index.ensures how seen (omega (arith, c.requires.room, room)) in
+    c.self.invariant.0 within c.index.ensures how seen (omega (arith, c.requires.room, room)) in
     omega (arith, lt.1)
 
 pub invariant_of-self : goal.invariant_of-self
@@ -72,8 +73,14 @@ invariant_of-self c =
       begun = c.ready-row.ensures.begun;
       linked = c.ready-row.ensures.linked;
     } in
-    slices_pushed rows cells c.ready-row.new.cells.items c.self.inside.used c.ready-row.new.used c.args.v c.args.cell c.index.result.now c.ready-row.result _ c.args.self.now.lists
-    c.self.invariant within c.index.ensures how seen (omega (arith, c.requires.room, room)) refl refl refl refl
+    let begun = c.self.invariant.1 in (
+      slices_pushed rows cells c.ready-row.new.cells.items c.self.inside.used c.ready-row.new.used c.args.v c.args.cell c.index.result.now c.ready-row.result _ c.args.self.now.lists
+          c.self.invariant.0 within c.index.ensures how seen (omega (arith, c.requires.room, room)) refl refl refl refl,
+      record {
+        within = omega (arith, begun.within, c.max-self-inside.ensures, length-set {A = Row});
+        rest = λ v d from h. from_set (λ (row : Row). (row.degree ≡ 0) × (row.full ≡ 0)) rows c.self.inside.begun c.args.v _ begun.rest v d (omega (arith, c.max-self-inside.ensures)) h;
+      },
+    )
 
 pub returns : goal.returns
 returns c =
@@ -88,7 +95,7 @@ returns c =
       begun = c.ready-row.ensures.begun;
       linked = c.ready-row.ensures.linked;
     } in
-    let s = c.self.invariant in
+    let s = c.self.invariant.0 in
     let ready = made_ready rows cells c.ready-row.new.cells.items c.self.inside.used c.ready-row.new.used c.args.v c.index.result.now c.ready-row.result s within c.index.ensures how in
     let g = grows rows cells c.ready-row.new.cells.items c.self.inside.used c.ready-row.new.used c.args.v c.index.result.now c.ready-row.result s within c.index.ensures how in
     let after = slices_pushed rows cells c.ready-row.new.cells.items c.self.inside.used c.ready-row.new.used c.args.v c.args.cell c.index.result.now c.ready-row.result

@@ -1,0 +1,4 @@
+pub mod Counting
+pub mod Directories
+pub mod Showing
+pub mod Sides

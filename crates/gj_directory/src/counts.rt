@@ -1,0 +1,82 @@
+//! How many interactions there are of each kind.
+ghost use Rattle.std.specs.Prelude.{◌≡◌, ◌+◌, ◌<◌, ◌^◌, if◌then◌else◌};
+ghost use Rattle.gj_base.specs.Kinds.{has_kind};
+
+use gj_base::{Kind, Mask};
+
+/// A count of each kind.
+#[derive(Clone, Copy)]
+pub struct Counts {
+    pub click: u32,
+    pub favorite: u32,
+    pub retweet: u32,
+    pub reply: u32,
+    pub tweet: u32,
+}
+
+/// Nothing counted.
+pub const NONE: Counts = Counts {
+    click: 0,
+    favorite: 0,
+    retweet: 0,
+    reply: 0,
+    tweet: 0,
+};
+
+impl Counts {
+    ghost use Rattle.std.specs.Prelude.{◌≡◌, ◌+◌, ◌<◌, if◌then◌else◌};
+    ghost use Rattle.gj_base.specs.declared.kind.Kind.{Kind};
+    ghost use Rattle.gj_base.specs.Kinds.{same_kind};
+    ghost use Rattle.gj_directory.specs.Counting.{kind_count, counted};
+
+    /// One more of this kind.
+    pub fn more(self, kind: Kind) -> Counts
+        requires { (other : Kind) → kind_count self other < 4294967295 }
+        ensures { (other : Kind) → kind_count result other ≡ kind_count self other + (if same_kind other kind then 1 else 0) }
+    {
+        let mut counts = self;
+        match kind {
+            Kind::Click => counts.click += 1,
+            Kind::Favorite => counts.favorite += 1,
+            Kind::Retweet => counts.retweet += 1,
+            Kind::Reply => counts.reply += 1,
+            Kind::Tweet => counts.tweet += 1,
+        }
+        counts
+    }
+
+    /// One less of this kind.
+    pub fn less(self, kind: Kind) -> Counts
+        requires { 0 < kind_count self kind }
+        ensures { (other : Kind) → kind_count result other + (if same_kind other kind then 1 else 0) ≡ kind_count self other }
+    {
+        let mut counts = self;
+        match kind {
+            Kind::Click => counts.click -= 1,
+            Kind::Favorite => counts.favorite -= 1,
+            Kind::Retweet => counts.retweet -= 1,
+            Kind::Reply => counts.reply -= 1,
+            Kind::Tweet => counts.tweet -= 1,
+        }
+        counts
+    }
+
+    /// How many there are of the mask's kinds.
+    pub fn of(self, mask: Mask) -> u64
+        ensures { result ≡ counted mask self }
+    {
+        pick(mask, Kind::Click, self.click)
+            + pick(mask, Kind::Favorite, self.favorite)
+            + pick(mask, Kind::Retweet, self.retweet)
+            + pick(mask, Kind::Reply, self.reply)
+            + pick(mask, Kind::Tweet, self.tweet)
+    }
+}
+
+/// The count, where the mask has the kind.
+fn pick(mask: Mask, kind: Kind, count: u32) -> u64
+    ensures exact { result ≡ (if has_kind mask kind then count else 0) }
+    ensures in_range { result < 2 ^ 32 }
+{
+    if mask.has(kind) { u64::from(count) } else { 0 }
+}

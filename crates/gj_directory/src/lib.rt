@@ -1,0 +1,13 @@
+//! The interactions of a window by its vertices: those of its older part contiguous for each vertex, and of the others how
+//! many each vertex has.
+//!
+//! Contracts see a `Directory` as two lists of interactions beside its names. `new` takes all memory; no other call takes any.
+#![tactic(auto)]
+
+mod counts;
+mod directory;
+mod half;
+mod parts;
+mod reads;
+
+pub use directory::Directory;

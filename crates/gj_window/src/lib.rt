@@ -1,0 +1,15 @@
+//! The window: its newest interactions lie in pools, and the full segments before them in one contiguous form, where each
+//! vertex is found once.
+//!
+//! Contracts see a `Window` as what it shows, with the forms of its segments. `make` takes all memory; no other call takes
+//! any.
+#![tactic(auto)]
+
+mod reading;
+mod segments;
+#[cfg(test)]
+mod tests;
+mod turning;
+mod window;
+
+pub use window::Window;

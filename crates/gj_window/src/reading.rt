@@ -1,0 +1,164 @@
+//! How the segments of a window are read.
+ghost use Rattle.std.specs.Prelude.{◌≡◌, ◌+◌, ◌^◌, ◌<◌, ◌≤◌, ◌++◌, length, count_by, slice_get, slice_index, Some, IfSome};
+ghost use Rattle.gj_base.specs.Draw.{end_picked};
+ghost use Rattle.gj_base.specs.Ends.{ends, other_side, passes};
+ghost use Rattle.gj_base.specs.Kinds.{all_kinds};
+ghost use Rattle.gj_window.specs.Segments.{items_of, names_on};
+
+use crate::segments::Segments;
+use gj_base::{Item, Kind, Mask, Side, count_in, end_in, pick};
+
+impl Segments {
+    /// How many interactions they hold.
+    #[inline]
+    pub fn len(&self) -> u32
+        ensures exact { result ≡ length (items_of self.now) }
+        ensures in_range { result ≤ 4194304 }
+    {
+        self.directory.len()
+    }
+
+    /// One of the interactions, by its index.
+    #[inline]
+    pub fn item(&self, i: u32) -> Item
+        requires { i < length (items_of self.now) }
+        ensures { slice_get (items_of self.now) i ≡ Some result }
+    {
+        self.directory.item(i)
+    }
+
+    /// How many interactions the mask lets through.
+    pub fn total(&self, mask: Mask) -> u32
+        ensures exact { result ≡ count_by (passes mask) (items_of self.now) }
+        ensures in_range { result ≤ 4194304 }
+    {
+        self.directory.total(mask)
+    }
+
+    /// How many ends the vertex has in the pools under the mask.
+    fn count_pools(&self, side: Side, id: u64, mask: Mask) -> u32
+        ensures exact { result ≡ length (ends (self.now.older ++ self.now.newest) side id mask) }
+        ensures in_range { result ≤ 131072 }
+    {
+        count_in(&self.older, side, id, mask) + count_in(&self.newest, side, id, mask)
+    }
+
+    /// One of the ends that the vertex has in the pools under the mask, by its index in order, with its kind.
+    fn end_pooled(&self, side: Side, id: u64, mask: Mask, i: u32) -> (u64, Kind)
+        requires { i < length (ends (self.now.older ++ self.now.newest) side id mask) }
+        ensures { slice_get (ends (self.now.older ++ self.now.newest) side id mask) i ≡ Some result }
+    {
+        let before = count_in(&self.older, side, id, mask);
+        if i < before {
+            end_in(&self.older, side, id, mask, i)
+        } else {
+            end_in(&self.newest, side, id, mask, i - before)
+        }
+    }
+
+    /// How many ends the vertex has in the pools under the mask, where it has `fresh` of all kinds and moments.
+    #[inline]
+    fn count_pooled(&self, side: Side, id: u64, mask: Mask, fresh: u32) -> u32
+        requires { fresh ≡ length (ends (self.now.older ++ self.now.newest) side id all_kinds) }
+        ensures exact { result ≡ length (ends (self.now.older ++ self.now.newest) side id mask) }
+        ensures few { result ≤ fresh }
+    {
+        if fresh == 0 {
+            return 0;
+        }
+        if mask == Mask::all() {
+            return fresh;
+        }
+        self.count_pools(side, id, mask)
+    }
+
+    /// How many ends the vertex with this number and this identifier has under the mask where it is laid out, and in the
+    /// pools.
+    #[inline]
+    fn degrees(&self, side: Side, v: u32, id: u64, mask: Mask) -> (u32, u32)
+        requires vertex { v < length (names_on self.now side) }
+        requires named { slice_index (names_on self.now side) v ≡ id }
+        ensures full { result.0 ≡ length (ends self.now.full side id mask) }
+        ensures pooled { result.1 ≡ length (ends (self.now.older ++ self.now.newest) side id mask) }
+        ensures in_range { result.0 + result.1 ≤ 4194304 }
+    {
+        let (full, fresh) = self.directory.degrees(side, v, mask);
+        (full, self.count_pooled(side, id, mask, fresh))
+    }
+
+    /// One of its ends under the mask, by its index in order, with its kind.
+    #[inline]
+    fn end_at(&self, side: Side, v: u32, id: u64, mask: Mask, full: u32, i: u32) -> (u64, Kind)
+        requires vertex { v < length (names_on self.now side) }
+        requires named { slice_index (names_on self.now side) v ≡ id }
+        requires full { full ≡ length (ends self.now.full side id mask) }
+        requires index { i < length (ends (items_of self.now) side id mask) }
+        ensures { slice_get (ends (items_of self.now) side id mask) i ≡ Some result }
+    {
+        if i < full {
+            self.directory.end(side, v, mask, i)
+        } else {
+            self.end_pooled(side, id, mask, i - full)
+        }
+    }
+
+    /// How many ends the vertex has under the mask.
+    #[inline]
+    pub fn count(&self, side: Side, id: u64, mask: Mask) -> u32
+        ensures exact { result ≡ length (ends (items_of self.now) side id mask) }
+        ensures in_range { result ≤ 4194304 }
+    {
+        match self.directory.find(side, id) {
+            Some(v) => {
+                let (full, pooled) = self.degrees(side, v, id, mask);
+                full + pooled
+            }
+            None => 0,
+        }
+    }
+
+    /// One of its ends under the mask, by its index in order, with its kind.
+    #[inline]
+    pub fn edge(&self, side: Side, id: u64, mask: Mask, i: u32) -> (u64, Kind)
+        requires { i < length (ends (items_of self.now) side id mask) }
+        ensures { slice_get (ends (items_of self.now) side id mask) i ≡ Some result }
+    {
+        match self.directory.find(side, id) {
+            Some(v) => {
+                let (full, _fresh) = self.directory.degrees(side, v, mask);
+                self.end_at(side, v, id, mask, full, i)
+            }
+            None => unreachable!(),
+        }
+    }
+
+    /// The vertex across that the word picks among the ends of the vertex with this number and this identifier.
+    #[inline]
+    fn pick_at(&self, side: Side, v: u32, id: u64, mask: Mask, word: u64) -> Option<u64>
+        requires vertex { v < length (names_on self.now side) }
+        requires named { slice_index (names_on self.now side) v ≡ id }
+        ensures exact { result ≡ end_picked (ends (items_of self.now) side id mask) word }
+        ensures back { IfSome result (λ end. 0 < length (ends (items_of self.now) (other_side side) end mask)) }
+    {
+        let (full, pooled) = self.degrees(side, v, id, mask);
+        let degree = u64::from(full + pooled);
+        if degree == 0 {
+            return None;
+        }
+        let i = pick(word, degree);
+        let (end, _kind) = self.end_at(side, v, id, mask, full, i as u32);
+        Some(end)
+    }
+
+    /// The vertex across that the word picks among its ends under the mask, found by one lookup.
+    #[inline]
+    pub fn pick_end(&self, side: Side, id: u64, mask: Mask, word: u64) -> Option<u64>
+        ensures exact { result ≡ end_picked (ends (items_of self.now) side id mask) word }
+        ensures back { IfSome result (λ end. 0 < length (ends (items_of self.now) (other_side side) end mask)) }
+    {
+        match self.directory.find(side, id) {
+            Some(v) => self.pick_at(side, v, id, mask, word),
+            None => None,
+        }
+    }
+}
