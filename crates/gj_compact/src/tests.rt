@@ -3,8 +3,9 @@
 ghost use Rattle.std.specs.Prelude.{◌<◌};
 
 use crate::CompactSegment;
-use gj_base::{Item, Kind, Mask, SegmentView, Side, count_in, end_in};
+use gj_base::{Item, Kind, Mask, Memory, SegmentView, Side, count_in, end_in};
 use gj_segment::PoolSegment;
+use std::alloc::Global;
 use std::process::Abort;
 use std::test::Fail;
 
