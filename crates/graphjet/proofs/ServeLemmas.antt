@@ -37,13 +37,13 @@ known_told kept h tells untold is =
     sym there
 
 -- a service over a keeper is one over the stores from which it came, and where it is at home again
-pub serves_home : (conf : Configuration) (path : List ℕ) (plan : Plan) (old new kept kept' : Kept) (f f' entered : ℕ) (d e : DoorAt) (o p : Outgoing) (end : ServiceEnd)
+pub serves_home : (conf : Configuration) (path : List ℕ) (plan : Plan) (old new kept kept' : Kept) (f f' : ℕ) (sure sure' : Bool) (entered : ℕ) (d e : DoorAt) (o p : Outgoing) (end : ServiceEnd)
     → (IsTrue old.tells → kept ≡ old) → new.tells ≡ old.tells → (IsTrue old.tells → new ≡ kept') → (IsTrue kept.bare → kept.tells ≡ false)
     → (IsOpened end → Service plan (λ h. IfSome (opening_of kept) (λ x. x ≡ h)) (Keeps conf kept') entered d e o p end)
     → (IsUnserved end → IsLeft conf kept kept')
     → (IsTrue kept.tells → Judges (due conf kept) end)
-    → Serves conf (Some path) plan (record { stored = old; faults = f }) (record { stored = new; faults = f' }) d e o p end
-serves_home conf path plan old new kept kept' f f' entered d e o p end out told home untold service left judged = record {
+    → Serves conf (Some path) plan (record { stored = old; faults = f; steady = sure }) (record { stored = new; faults = f'; steady = sure' }) d e o p end
+serves_home conf path plan old new kept kept' f f' sure sure' entered d e o p end out told home untold service left judged = record {
   service = λ is. (
     entered,
     service_as plan _ _ _ _ entered d e o p end

@@ -130,7 +130,7 @@ where
     requires fresh { (D.handed door ≡ 0) × (D.back door ≡ 0) × (D.nones door ≡ 0) }
     requires plan { IsPlan plan }
     requires grants { grants.old < 2 ^ 40 }
-    ensures does { Serves conf (Some path.now) plan (stores_at (P.stored stores.old) (P.faults stores.old)) (stores_at (P.stored stores.new) (P.faults stores.new))
+    ensures does { Serves conf (Some path.now) plan (stores_at (P.stored stores.old) (P.faults stores.old) (P.steady stores.old)) (stores_at (P.stored stores.new) (P.faults stores.new) (P.steady stores.new))
         (door_at (D.handed door) (D.back door) (D.nones door) (D.faults door))
         (door_at (D.handed result.door) (D.back result.door) (D.nones result.door) (D.faults result.door))
         (outgoing (O.tells out.old) (O.written out.old) (O.faults out.old) (O.sure out.old))
@@ -186,7 +186,7 @@ where
     requires fresh { (D.handed door ≡ 0) × (D.back door ≡ 0) × (D.nones door ≡ 0) }
     requires grants { grants.old < 2 ^ 40 }
     ensures does { Serves (serving_by service.now).conf (serving_by service.now).store (plan_of (serving_by service.now))
-        (stores_at (P.stored stores.old) (P.faults stores.old)) (stores_at (P.stored stores.new) (P.faults stores.new))
+        (stores_at (P.stored stores.old) (P.faults stores.old) (P.steady stores.old)) (stores_at (P.stored stores.new) (P.faults stores.new) (P.steady stores.new))
         (door_at (D.handed door) (D.back door) (D.nones door) (D.faults door))
         (door_at (D.handed result.door) (D.back result.door) (D.nones result.door) (D.faults result.door))
         (outgoing (O.tells out.old) (O.written out.old) (O.faults out.old) (O.sure out.old))
@@ -232,7 +232,7 @@ where
     requires fresh { (D.handed door ≡ 0) × (D.back door ≡ 0) × (D.nones door ≡ 0) }
     requires grants { grants.old < 2 ^ 40 }
     ensures does { DoesServe (service_of (map (λ w. string_bytes w) words.now))
-        (stores_at (P.stored stores.old) (P.faults stores.old)) (stores_at (P.stored stores.new) (P.faults stores.new))
+        (stores_at (P.stored stores.old) (P.faults stores.old) (P.steady stores.old)) (stores_at (P.stored stores.new) (P.faults stores.new) (P.steady stores.new))
         (door_at (D.handed door) (D.back door) (D.nones door) (D.faults door))
         (door_at (D.handed result.door) (D.back result.door) (D.nones result.door) (D.faults result.door))
         (outgoing (O.tells out.old) (O.written out.old) (O.faults out.old) (O.sure out.old))
@@ -306,7 +306,7 @@ where
 
     // What was asked for was done, and told on `err`; each link that was handed out was served and came back.
     ensures obeys { ObeysServe (service_of (map (λ w. string_bytes w) words.now))
-        (stores_at (P.stored stores.old) (P.faults stores.old)) (stores_at (P.stored stores.new) (P.faults stores.new))
+        (stores_at (P.stored stores.old) (P.faults stores.old) (P.steady stores.old)) (stores_at (P.stored stores.new) (P.faults stores.new) (P.steady stores.new))
         (door_at (D.handed door) (D.back door) (D.nones door) (D.faults door))
         (door_at (D.handed result.door) (D.back result.door) (D.nones result.door) (D.faults result.door))
         (outgoing (O.tells out.old) (O.written out.old) (O.faults out.old) (O.sure out.old))
