@@ -1,5 +1,4 @@
 pub mod Lines
 pub mod Replays
 pub mod Runs
-pub mod Serves
 pub mod Statuses
