@@ -111,9 +111,9 @@ whole_heard conf seat a b m o x kept (Ok (asks.Query query)) e within = elim (wh
 whole_heard conf seat a b m o x kept (Ok (asks.Items batch)) e within = elim (whole_batch conf seat a b m batch o e x within kept) [
   | inl said ↦ subst IsWhole (sym said) refl
   | inr other ↦ elim other [
-      | inl entered ↦ subst IsWhole (sym entered) tt
-      | inr lack ↦ subst IsWhole (sym lack) tt
-    ]
+    | inl entered ↦ subst IsWhole (sym entered) tt
+    | inr lack ↦ subst IsWhole (sym lack) tt
+  ]
 ]
 whole_heard conf seat a b m o x kept (Err reply) e within = absurd within
 

@@ -79,7 +79,11 @@ fn a_window_of_one_segment_drops_it_in_either_form(rt: HostRuntime) -> Result<()
 
 /// The user has so many interactions.
 fn user_has(rt: &impl Abort, window: &Window, user: u64, count: u64) {
-    assert_eq!(rt; window.count(Side::User, user, Mask::all()), count, "user {user}");
+    assert_eq!(rt;
+        window.count(Side::User, user, Mask::all()),
+        count,
+        "user {user}"
+    );
 }
 
 /// So many interactions are of the kind.

@@ -14,9 +14,9 @@ clear-passes-requires-clause-served g c =
     let all : c.args.desks.len ≡ length old = search rules in
     let served : (i : ℕ) (d : X) → i < length old → DeskServed (slice_index_or old i d).seat (slice_index_or new i d).seat (slice_index_or new i d).pass
     = subst (λ (xs : List X). (i : ℕ) (d : X) → i < length xs → DeskServed (slice_index_or xs i d).seat (slice_index_or new i d).seat (slice_index_or new i d).pass)
-        c.as_mut_slice.ensures.value c.serve_all.ensures in
+    c.as_mut_slice.ensures.value c.serve_all.ensures in
     all_changed (λ (d : X). IsServedDesk d.seat.posted d.pass) old new c.args.desks.len all same
     (λ k d lt. (
-        let s = served k d lt in
-        let fresh = c.requires.fresh k d lt in
-        record { all_back = s.all_back; told = s.told; entered = omega (arith, s.entered, fresh.posted) }))
+    let s = served k d lt in
+    let fresh = c.requires.fresh k d lt in
+    record { all_back = s.all_back; told = s.told; entered = omega (arith, s.entered, fresh.posted) }))
