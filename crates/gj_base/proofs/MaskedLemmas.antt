@@ -1,5 +1,5 @@
 -- The ends of a vertex under a mask are those of its dated ends that the mask lets through.
-use Rattle.std.proofs.Common.{◌≡◌, ℕ, zero, suc, ◌+◌, ◌-◌, ◌<◌, ◌≤◌, ◌∙◌, ◌&&◌, Bool, List, [], ◌∷◌, length, map, count_by, filter, true, false, refl, arith, drop, take, get_or, drop-cons, slice_get, option_map, Some, sym, ap, add-one, eqb, inl, inr}
+use Rattle.std.proofs.Common.{◌≡◌, ℕ, ◌+◌, ◌<◌, ◌≤◌, ◌∙◌, Bool, List, [], ◌∷◌, length, map, count_by, filter, true, false, refl, arith, drop, take, get_or, drop-cons, slice_get, option_map, Some, sym, ap, add-one, eqb, inl, inr}
 use Rattle.std.proofs.lemmas.Bool.{eq-eqb, ne_eqb, cases_eq, cases_Bool}
 use Rattle.std.proofs.Math.Dec.{leb-zero}
 use Rattle.std.proofs.lemmas.List.{length-take, length-map, take_all, drop_all}

@@ -1,5 +1,5 @@
 -- The ends of a vertex by identifiers are those by numbers, named.
-use Rattle.std.proofs.Common.{◌≡◌, ◌≢◌, ℕ, zero, suc, ◌+◌, ◌<◌, ◌≤◌, ◌∙◌, Bool, List, [], ◌∷◌, length, map, filter, get_or, Option, slice_get, option_map, Some, None, true, false, refl, arith, sym, ap, eqb, inl, inr, ◌&&◌}
+use Rattle.std.proofs.Common.{◌≡◌, ℕ, zero, suc, ◌<◌, ◌∙◌, Bool, List, [], ◌∷◌, length, map, filter, get_or, Option, slice_get, option_map, Some, None, true, false, refl, arith, sym, ap, eqb, inl, inr, ◌&&◌}
 use Rattle.std.proofs.lemmas.Bool.{eq-eqb, ne_eqb, cases_eq, cases_Bool}
 use Rattle.std.proofs.lemmas.List.{length-map, get_or-map}
 use Rattle.std.proofs.lemmas.Option.{slice_get-map, get_or_from_slice_get}
@@ -11,7 +11,7 @@ use Rattle.gj_base.specs.declared.kind.Kind.{Kind}
 use Rattle.gj_base.specs.declared.kind.Kind.TheVariants.{Click}
 use Rattle.gj_base.specs.Ends.{ends, is_eligible, end_across, vertex_on, vertex_across, other_side}
 use Rattle.gj_base.specs.Kinds.{lets}
-use Rattle.gj_base.specs.Firsts.{number_in, firsts, place_of, HasNoRepeat}
+use Rattle.gj_base.specs.Firsts.{number_in, firsts, place_of}
 use Rattle.gj_base.specs.Numbered.{numbered, numbered_by, named_by, vertices_of}
 use Rattle.gj_base.proofs.FirstLemmas.{IsIn, place_of-Some, in-firsts, numbered-in, found-in, number_in-at, distinct-firsts}
 

@@ -1,4 +1,5 @@
 pub mod Lines
 pub mod Replays
 pub mod Runs
+pub mod Serves
 pub mod Statuses

@@ -1,4 +1,4 @@
-use Rattle.std.proofs.Common.{◌≡◌, ◌<◌, ◌≤◌, length, arith, sym, ◌∙◌}
+use Rattle.std.proofs.Common.{◌<◌, ◌≤◌, length, arith, sym, ◌∙◌}
 use Rattle.gj_base.specs.Numbered.{numbered, dated_ends, lets_end}
 use Rattle.gj_base.proofs.MaskedLemmas.{length-dated, count_few, count_yes, count_no, count_all}
 use Rattle.gj_base.proofs.segment_view.SegmentView.count_of.Goals as goal
