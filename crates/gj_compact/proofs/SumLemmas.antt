@@ -13,7 +13,8 @@ use Rattle.gj_compact.specs.declared.counts.Counts.{Counts}
 use Rattle.gj_compact.specs.declared.edge.End.{End}
 use Rattle.gj_compact.specs.Blocks.{lets_through}
 use Rattle.gj_compact.specs.Cells.{joined}
-use Rattle.gj_compact.specs.Sums.{AreCounts, AreSums, kind_count, counted, none_counted}
+use Rattle.gj_compact.specs.Counting.{kind_count, counted, none_counted}
+use Rattle.gj_compact.specs.Sums.{AreCounts, AreSums}
 use Rattle.gj_compact.proofs.CellLemmas.{take-joined}
 
 pub take_split : {A : Type 0} (xs : List A) (q p : ℕ) → q ≤ p → take p xs ≡ take q xs ++ take (p - q) (drop q xs)

@@ -10,7 +10,8 @@ use Rattle.gj_base.specs.Ends.{passes}
 use Rattle.gj_base.specs.Kinds.{has_kind, same_kind}
 use Rattle.gj_compact.specs.declared.counts.Counts.{Counts}
 use Rattle.gj_compact.specs.declared.edge.Edge.{Edge}
-use Rattle.gj_compact.specs.Sums.{AreCounts, kind_count, none_counted, edge_kind}
+use Rattle.gj_compact.specs.Counting.{kind_count, none_counted}
+use Rattle.gj_compact.specs.Sums.{AreCounts, edge_kind}
 use Rattle.gj_compact.specs.Turns.{plain}
 use Rattle.gj_compact.proofs.SpanLemmas.{lets_since}
 use Rattle.gj_compact.proofs.SumLemmas.{counts_more}

@@ -3,10 +3,10 @@ ghost use Rattle.std.specs.Prelude.{◌≡◌, ◌+◌, ◌-◌, ◌*◌, ◌/�
 ghost use Rattle.gj_compact.specs.Blocks.{lets_through, moments_between, AreBounds};
 ghost use Rattle.gj_compact.specs.Cells.{no_end};
 
-use crate::counts::Counts;
+use crate::counts::{Counts, NO_COUNTS};
 use crate::edge::End;
 use crate::spans::{NO_SPAN, Span, span_blocks};
-use crate::sums::{NONE, before, block_at, sum_blocks};
+use crate::sums::{before, block_at, sum_blocks};
 use gj_base::{Kind, Mask, Memory};
 use std::alloc::Global;
 use std::marker::Model;
@@ -62,7 +62,7 @@ impl Cells {
         let Ok(moments) = vec![in alloc; 0; room as usize] else {
             return Err(Memory);
         };
-        let Ok(sums) = vec![in alloc; NONE; room as usize / 64 + 1] else {
+        let Ok(sums) = vec![in alloc; NO_COUNTS; room as usize / 64 + 1] else {
             return Err(Memory);
         };
         let Ok(spans) = vec![in alloc; NO_SPAN; room as usize / 64 + 1] else {

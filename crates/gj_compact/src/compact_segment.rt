@@ -3,10 +3,9 @@ ghost use Rattle.std.specs.Prelude.{◌≡◌, ◌+◌, ◌<◌, ◌≤◌, [], 
 ghost use Rattle.gj_base.specs.Numbered.{numbered};
 ghost use Rattle.gj_compact.specs.Turns.{plain};
 
-use crate::counts::Counts;
+use crate::counts::{Counts, NO_COUNTS};
 use crate::edge::Edge;
 use crate::part::Part;
-use crate::sums::NONE;
 use crate::totals::count_all;
 use gj_base::{Memory, SegmentView, Side};
 use std::alloc::Global;
@@ -77,7 +76,7 @@ impl CompactSegment {
                 users,
                 posts,
                 edges,
-                kinds: NONE,
+                kinds: NO_COUNTS,
                 room: capacity,
             }),
             Err(_) => Err(Memory),

@@ -14,11 +14,20 @@ pub struct Counts {
     pub tweet: u32,
 }
 
+/// Nothing counted.
+pub const NO_COUNTS: Counts = Counts {
+    click: 0,
+    favorite: 0,
+    retweet: 0,
+    reply: 0,
+    tweet: 0,
+};
+
 impl Counts {
     ghost use Rattle.std.specs.Prelude.{◌≡◌, ◌+◌, ◌<◌, if◌then◌else◌};
     ghost use Rattle.gj_base.specs.declared.kind.Kind.{Kind};
     ghost use Rattle.gj_base.specs.Kinds.{same_kind};
-    ghost use Rattle.gj_compact.specs.Sums.{kind_count, counted};
+    ghost use Rattle.gj_compact.specs.Counting.{kind_count, counted};
 
     /// One more of this kind.
     pub fn more(self, kind: Kind) -> Counts
@@ -36,7 +45,23 @@ impl Counts {
         counts
     }
 
-    /// How many there are of the mask's kinds.
+    /// One less of this kind.
+    pub fn less(self, kind: Kind) -> Counts
+        requires { 0 < kind_count self kind }
+        ensures { (other : Kind) → kind_count result other + (if same_kind other kind then 1 else 0) ≡ kind_count self other }
+    {
+        let mut counts = self;
+        match kind {
+            Kind::Click => counts.click -= 1,
+            Kind::Favorite => counts.favorite -= 1,
+            Kind::Retweet => counts.retweet -= 1,
+            Kind::Reply => counts.reply -= 1,
+            Kind::Tweet => counts.tweet -= 1,
+        }
+        counts
+    }
+
+    /// How many there are of the mask's kinds, at all moments.
     pub fn of(self, mask: Mask) -> usize
         ensures { result ≡ counted mask self }
     {

@@ -20,6 +20,7 @@ mod turns;
 mod view;
 
 pub use compact_segment::CompactSegment;
+pub use counts::{Counts, NO_COUNTS};
 pub use edge::{Edge, End};
 pub use lane::Lane;
 pub use turns::{fill, note_all, shed};

@@ -1,9 +1,10 @@
 //! Counts of kinds before each block of 64 cells, so that a heavy vertex is counted and searched by blocks.
 ghost use Rattle.std.specs.Prelude.{◌≡◌, ◌+◌, ◌*◌, ◌<◌, ◌≤◌, length, take, drop, count_by, slice_index_or};
 ghost use Rattle.gj_base.specs.Kinds.{has_kind};
-ghost use Rattle.gj_compact.specs.Sums.{AreCounts, AreSums, IsRoom, counted, none_counted};
+ghost use Rattle.gj_compact.specs.Counting.{counted, none_counted};
+ghost use Rattle.gj_compact.specs.Sums.{AreCounts, AreSums, IsRoom};
 
-use crate::counts::Counts;
+use crate::counts::{Counts, NO_COUNTS};
 use gj_base::{Kind, Mask};
 
 /// The counts after more kinds.
@@ -26,7 +27,7 @@ pub fn sum_blocks(sums: &mut [Counts], kinds: &[Kind])
     requires { IsRoom sums.old kinds.now }
     ensures { AreSums sums.new kinds.now }
 {
-    let mut counts = NONE;
+    let mut counts = NO_COUNTS;
     for b in 0..sums.len() {
         sums[b] = counts;
         counts = after(
@@ -37,15 +38,6 @@ pub fn sum_blocks(sums: &mut [Counts], kinds: &[Kind])
         );
     }
 }
-
-/// No kind was counted.
-pub const NONE: Counts = Counts {
-    click: 0,
-    favorite: 0,
-    retweet: 0,
-    reply: 0,
-    tweet: 0,
-};
 
 /// How many of these kinds the mask has.
 fn count_kinds(kinds: &[Kind], mask: Mask) -> usize

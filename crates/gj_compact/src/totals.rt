@@ -4,9 +4,8 @@ ghost use Rattle.gj_base.specs.Ends.{passes};
 ghost use Rattle.gj_compact.specs.Sums.{AreCounts, edge_kind};
 ghost use Rattle.gj_compact.specs.Turns.{plain};
 
-use crate::counts::Counts;
+use crate::counts::{Counts, NO_COUNTS};
 use crate::edge::Edge;
-use crate::sums::NONE;
 use gj_base::Mask;
 
 /// How many of the interactions have each kind.
@@ -14,7 +13,7 @@ pub fn count_all(edges: &[Edge]) -> Counts
     requires { length edges.now < 4294967295 }
     ensures { AreCounts result (map edge_kind edges.now) }
 {
-    let mut counts = NONE;
+    let mut counts = NO_COUNTS;
     for edge in edges {
         counts = counts.more(edge.kind);
     }

@@ -13,8 +13,9 @@ use Rattle.gj_base.specs.Kinds.{has_kind, same_kind, kind_number}
 use Rattle.gj_base.specs.Numbered.{named_by}
 use Rattle.gj_compact.specs.declared.edge.Edge.{Edge}
 use Rattle.gj_compact.specs.Turns.{plain}
-use Rattle.gj_directory.specs.declared.counts.Counts.{Counts}
-use Rattle.gj_directory.specs.Counting.{kind_count, counted, AreCounts}
+use Rattle.gj_compact.specs.Counting.{kind_count, counted}
+use Rattle.gj_compact.specs.declared.counts.Counts.{Counts}
+use Rattle.gj_directory.specs.Counting.{AreCounts}
 use Rattle.gj_directory.specs.Sides.{items_of}
 
 -- one more of a kind among the counts of all

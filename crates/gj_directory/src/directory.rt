@@ -8,12 +8,11 @@ ghost use Rattle.gj_base.specs.Kinds.{all_kinds};
 ghost use Rattle.gj_directory.specs.Counting.{AreCounts};
 ghost use Rattle.gj_directory.specs.Directories.{held, ids_of};
 
-use crate::counts::{Counts, NONE};
 use crate::half::Half;
 use crate::parts::between;
 use crate::reads::{count_in, end_in, half_of, total_in};
 use gj_base::{Item, Kind, Mask, Memory, Side};
-use gj_compact::Edge;
+use gj_compact::{Counts, Edge, NO_COUNTS};
 use std::alloc::Global;
 use std::collections::VecDeque;
 use std::marker::Model;
@@ -60,7 +59,7 @@ fn drop_front(edges: &mut VecDeque<Edge>, counts: &mut Counts, count: u32)
 
 impl Directory {
     /// An empty directory for that many interactions, and for that many identifiers of each side. It takes all memory that
-    /// it will use, and touches little of it.
+    /// it will use.
     pub fn new(alloc: Global, room: u32, names: u32) -> Result<Directory, Memory>
         requires room { room ≤ 4194304 }
         requires any { 1 ≤ names }
@@ -85,7 +84,7 @@ impl Directory {
             posts,
             edges,
             full: 0,
-            counts: NONE,
+            counts: NO_COUNTS,
             ids,
         })
     }
@@ -98,15 +97,6 @@ impl Directory {
         ensures fits { self.now.room ≤ 4194304 }
     {
         self.edges.len() as u32
-    }
-
-    /// How many interactions are laid out.
-    #[inline]
-    pub fn full_len(&self) -> u32
-        ensures exact { result ≡ length self.now.full }
-        ensures in_range { result ≤ self.now.room }
-    {
-        self.full
     }
 
     /// The interaction at a place.

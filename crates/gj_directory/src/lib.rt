@@ -4,7 +4,6 @@
 //! Contracts see a `Directory` as two lists of interactions beside its names. `new` takes all memory; no other call takes any.
 #![tactic(auto)]
 
-mod counts;
 mod directory;
 mod half;
 mod parts;

@@ -6,6 +6,8 @@ mod gates;
 #[cfg(test)]
 mod links;
 #[cfg(test)]
+mod loopback_tests;
+#[cfg(test)]
 mod serving;
 #[cfg(test)]
 mod tests;

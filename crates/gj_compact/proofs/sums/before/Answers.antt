@@ -2,7 +2,7 @@ use Rattle.std.proofs.Common.{◌≡◌, ◌<◌, ◌≤◌, ◌*◌, ◌/◌, �
 use Rattle.std.proofs.lemmas.List.Sums.{count_by-le-length}
 use Rattle.gj_base.specs.declared.kind.Kind.{Kind}
 use Rattle.gj_base.specs.Kinds.{has_kind}
-use Rattle.gj_compact.specs.Sums.{counted, none_counted}
+use Rattle.gj_compact.specs.Counting.{counted, none_counted}
 use Rattle.gj_compact.proofs.SumLemmas.{count_split, counted_is}
 use Rattle.gj_compact.proofs.sums.before.Goals as goal
 

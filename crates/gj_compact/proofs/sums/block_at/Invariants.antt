@@ -1,5 +1,5 @@
 use Rattle.std.proofs.Common.{◌-◌, ◌≤◌, get_or}
-use Rattle.gj_compact.specs.Sums.{counted, none_counted}
+use Rattle.gj_compact.specs.Counting.{counted, none_counted}
 use Rattle.gj_compact.proofs.sums.block_at.Given as goal
 
 abbrev pub invariant-loop-low : goal.invariant-loop-low

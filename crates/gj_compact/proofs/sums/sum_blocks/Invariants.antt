@@ -1,5 +1,6 @@
 use Rattle.std.proofs.Common.{◌<◌, ◌*◌, ℕ, get_or, take}
-use Rattle.gj_compact.specs.Sums.{AreCounts, none_counted}
+use Rattle.gj_compact.specs.Counting.{none_counted}
+use Rattle.gj_compact.specs.Sums.{AreCounts}
 use Rattle.gj_compact.proofs.sums.sum_blocks.Given as goal
 
 abbrev pub invariant-loop-b : goal.invariant-loop-b

@@ -4,7 +4,7 @@ use Rattle.gj_base.specs.Kinds.{has_kind}
 use Rattle.gj_compact.specs.declared.counts.Counts.{Counts}
 use Rattle.gj_compact.specs.declared.edge.End.{End}
 use Rattle.gj_compact.specs.Blocks.{lets_through}
-use Rattle.gj_compact.specs.Sums.{counted, none_counted}
+use Rattle.gj_compact.specs.Counting.{counted, none_counted}
 use Rattle.gj_compact.proofs.CellLemmas.{length-joined}
 use Rattle.gj_compact.proofs.SumLemmas.{cells_before, count_split, nth_split, sum_at, sum_read, sum_below}
 use Rattle.gj_compact.proofs.cells.Cells.nth_long.Goals as goal
