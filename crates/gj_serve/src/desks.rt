@@ -10,8 +10,8 @@ use std::sync::ledger::Ledger;
 
 /// What a worker has: its seat, its framer and its pass.
 #[derive(Drop)]
-pub struct Desk<W: Grow + Drop, J: Opening, T: Stating, B: Ledger, O: Ledger> {
+pub struct Desk<W: Grow + Drop, J: Opening, T: Stating, B: Ledger, O: Ledger, E: Ledger> {
     pub seat: Seat<W, J>,
     pub framer: Framer,
-    pub pass: Pass<T, B, O>,
+    pub pass: Pass<T, B, O, E>,
 }

@@ -21,6 +21,9 @@ pub trait Door {
     // How often it answered that it is closed.
     ghost nones: { Self → ℕ };
 
+    // How much entered by the sessions of those that came back.
+    ghost entered: { Self → ℕ };
+
     // How often a call failed.
     ghost faults: { Self → ℕ };
 
@@ -31,6 +34,7 @@ pub trait Door {
     fn listen(&mut self, port: u16) -> Result<(), Failed>
         requires fresh { (handed self.old ≡ 0) × (back self.old ≡ 0) × (nones self.old ≡ 0) }
         ensures same { (handed self.new ≡ 0) × (back self.new ≡ 0) × (nones self.new ≡ 0) }
+        ensures entered { entered self.new ≡ entered self.old }
         ensures cause { HasCause (faults self.old) (faults self.new) result }
         ensures steady { IsTrue (steady self.old) → IsOk result × IsTrue (steady self.new) };
 
@@ -39,6 +43,7 @@ pub trait Door {
         requires in_range { (handed self.old < 2 ^ 40) × (nones self.old < 2 ^ 40) }
         ensures handed { HandsOut Self.Link.tells Self.Link.stream Self.Link.written (handed self.old) (handed self.new) (nones self.old) (nones self.new) result }
         ensures back { back self.new ≡ back self.old }
+        ensures entered { entered self.new ≡ entered self.old }
         ensures cause { HasCause (faults self.old) (faults self.new) result }
         ensures steady { IsTrue (steady self.old) → IsOk result × IsTrue (steady self.new) };
 
@@ -47,6 +52,7 @@ pub trait Door {
         requires some { back self.old < handed self.old }
         requires in_range { back self.old < 2 ^ 40 }
         ensures back { back self.new ≡ back self.old + 1 }
+        ensures entered { entered self.new ≡ entered self.old + done.entered }
         ensures others { (handed self.new ≡ handed self.old) × (nones self.new ≡ nones self.old) }
         ensures later { faults self.old ≤ faults self.new }
         ensures steady { IsTrue (steady self.old) → IsTrue (steady self.new) };

@@ -29,12 +29,14 @@ pub struct TcpDoor<R> {
     back: u64,
     nones: u64,
     faults: u64,
+    entered: u128,
+    ghost fits: { entered ≤ 2 ^ 48 * back },
 }
 
 impl<R: Net<Listener = TcpListener, Stream = TcpStream>> TcpDoor<R> {
     /// A door that is not open yet.
     pub fn new(rt: R) -> Self
-        ensures { (result.handed ≡ 0) × (result.back ≡ 0) × (result.nones ≡ 0) × (result.faults ≡ 0) }
+        ensures { (result.handed ≡ 0) × (result.back ≡ 0) × (result.nones ≡ 0) × (result.faults ≡ 0) × (result.entered ≡ 0) }
     {
         TcpDoor {
             rt,
@@ -43,6 +45,7 @@ impl<R: Net<Listener = TcpListener, Stream = TcpStream>> TcpDoor<R> {
             back: 0,
             nones: 0,
             faults: 0,
+            entered: 0,
         }
     }
 }
@@ -93,6 +96,8 @@ impl<R: Net<Listener = TcpListener, Stream = TcpStream> + Clock> Door for TcpDoo
 
     ghost faults = { λ d. d.faults };
 
+    ghost entered = { λ d. d.entered };
+
     ghost steady = { λ _. false };
 
     fn listen(&mut self, port: u16) -> Result<(), Failed> {
@@ -129,11 +134,14 @@ impl<R: Net<Listener = TcpListener, Stream = TcpStream> + Clock> Door for TcpDoo
         requires some { self.old.back < self.old.handed }
         requires in_range { self.old.back < 2 ^ 40 }
         ensures back { self.new.back ≡ self.old.back + 1 }
+        ensures entered { self.new.entered ≡ self.old.entered + done.entered }
         ensures others { (self.new.handed ≡ self.old.handed) × (self.new.nones ≡ self.old.nones) }
         ensures later { self.old.faults ≤ self.new.faults }
         ensures steady { IsTrue false → IsTrue false }
     {
+        let entered = done.entered();
         drop(done.into_link());
         self.back += 1;
+        self.entered += u128::from(entered);
     }
 }

@@ -22,10 +22,10 @@ use std::thread;
 use std::thread::Threads;
 
 /// Takes the next connection under the door's lock.
-fn take<R: Wait, D: Door, T: Stating, B: Ledger, O: Ledger>(
+fn take<R: Wait, D: Door, T: Stating, B: Ledger, O: Ledger, E: Ledger>(
     rt: &R,
-    door: &Mutex<DoorBook<D, T, B, O>>,
-    pass: &mut Pass<T, B, O>,
+    door: &Mutex<DoorBook<D, T, B, O, E>>,
+    pass: &mut Pass<T, B, O, E>,
 ) -> Taken<D::Link>
     requires { pass.old.overs < 2 ^ 40 }
     ensures { TakesLink D.Link.tells D.Link.stream D.Link.written pass.old pass.new result }
@@ -34,10 +34,10 @@ fn take<R: Wait, D: Door, T: Stating, B: Ledger, O: Ledger>(
 }
 
 /// Gives a connection back under the door's lock.
-fn give<R: Wait, D: Door, T: Stating, B: Ledger, O: Ledger>(
+fn give<R: Wait, D: Door, T: Stating, B: Ledger, O: Ledger, E: Ledger>(
     rt: &R,
-    door: &Mutex<DoorBook<D, T, B, O>>,
-    pass: &mut Pass<T, B, O>,
+    door: &Mutex<DoorBook<D, T, B, O, E>>,
+    pass: &mut Pass<T, B, O, E>,
     done: Done<D::Link>,
 )
     requires some { pass.old.back < pass.old.taken }
@@ -59,13 +59,14 @@ fn work<
     T: Stating,
     B: Ledger,
     O: Ledger,
+    E: Ledger,
 >(
     rt: &R,
     alloc: Global,
     writer: &Mutex<Writer<J, C, K>>,
-    desk: &mut Desk<W, J, T, B, O>,
+    desk: &mut Desk<W, J, T, B, O, E>,
     routes: &Routes,
-    door: &Mutex<DoorBook<D, T, B, O>>,
+    door: &Mutex<DoorBook<D, T, B, O, E>>,
     gate: &G,
 )
     requires { desk.old.pass ≡ no_tallies }
@@ -97,13 +98,14 @@ pub fn serve_all<
     T: Stating + Send,
     B: Ledger + Send,
     O: Ledger + Send,
+    E: Ledger + Send,
 >(
     rt: &R,
     alloc: Global,
     writer: &Mutex<Writer<J, C, K>>,
-    desks: &mut [Desk<W, J, T, B, O>],
+    desks: &mut [Desk<W, J, T, B, O, E>],
     routes: &Routes,
-    door: &Mutex<DoorBook<D, T, B, O>>,
+    door: &Mutex<DoorBook<D, T, B, O, E>>,
     gate: &G,
 )
     requires some { 0 < length desks.old }
@@ -117,7 +119,7 @@ pub fn serve_all<
         rt,
         desks,
         threads,
-        &|_, desk: &mut Desk<W, J, T, B, O>|
+        &|_, desk: &mut Desk<W, J, T, B, O, E>|
             requires { IsSend D.Link.row × (desk.now.pass ≡ no_tallies) }
         { work(rt, alloc, writer, desk, routes, door, gate) },
     );

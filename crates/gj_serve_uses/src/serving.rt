@@ -1,7 +1,7 @@
 //! Two workers over a door in memory, from the opening of an index to what is left of it.
 ghost use Rattle.std.specs.Prelude.{◌≡◌, ◌+◌, ◌<◌, ◌≤◌, ◌^◌, false, Some, All, IfSome, sum_by, vec_len};
 ghost use Rattle.gj_base.specs.History.{empty_history};
-ghost use Rattle.gj_serve.specs.MemoryDoors.{handed_by, back_at, nones_of, faults_at};
+ghost use Rattle.gj_serve.specs.MemoryDoors.{handed_by, back_at, nones_of, entered_by, faults_at};
 ghost use Rattle.gj_serve.specs.Passes.{no_tallies};
 
 use gj_base::{Conf, Gate, ListGraph, MemoryLink};
@@ -31,11 +31,11 @@ pub(crate) struct Left {
 }
 
 /// A desk for each seat and pass.
-fn set_up<J: Opening, T: Stating, B: Ledger, O: Ledger>(
+fn set_up<J: Opening, T: Stating, B: Ledger, O: Ledger, E: Ledger>(
     alloc: Global,
     mut seats: Vec<Seat<ListGraph, J>>,
-    mut passes: Vec<Pass<T, B, O>>,
-) -> Option<Vec<Desk<ListGraph, J, T, B, O>>>
+    mut passes: Vec<Pass<T, B, O, E>>,
+) -> Option<Vec<Desk<ListGraph, J, T, B, O, E>>>
     requires same { vec_len passes ≡ vec_len seats }
     requires unused { All (λ p. p ≡ no_tallies) passes.items }
     ensures all { IfSome result (λ desks. vec_len desks ≡ vec_len seats) }
@@ -52,16 +52,16 @@ fn set_up<J: Opening, T: Stating, B: Ledger, O: Ledger>(
 
 /// The seats and the passes of desks whose workers have ended.
 #[derive(Drop)]
-struct Cleared<J: Opening, T: Stating, B: Ledger, O: Ledger> {
+struct Cleared<J: Opening, T: Stating, B: Ledger, O: Ledger, E: Ledger> {
     seats: Vec<Seat<ListGraph, J>>,
-    passes: Vec<Pass<T, B, O>>,
+    passes: Vec<Pass<T, B, O, E>>,
 }
 
 /// Takes the desks apart.
-fn clear<J: Opening, T: Stating, B: Ledger, O: Ledger>(
+fn clear<J: Opening, T: Stating, B: Ledger, O: Ledger, E: Ledger>(
     alloc: Global,
-    mut desks: Vec<Desk<ListGraph, J, T, B, O>>,
-) -> Option<Cleared<J, T, B, O>>
+    mut desks: Vec<Desk<ListGraph, J, T, B, O, E>>,
+) -> Option<Cleared<J, T, B, O, E>>
     requires some { 0 < vec_len desks }
     requires told { All (λ d. 0 < d.pass.overs) desks.items }
     ensures seats { IfSome result (λ c. vec_len c.seats ≡ vec_len desks) }
@@ -91,16 +91,17 @@ fn served_by<
     T: Stating + Send,
     B: Ledger + Send,
     O: Ledger + Send,
+    E: Ledger + Send,
 >(
     rt: &R,
     alloc: Global,
     writer: Writer<J, C, NoKeeper>,
-    mut desks: Vec<Desk<ListGraph, J, T, B, O>>,
+    mut desks: Vec<Desk<ListGraph, J, T, B, O, E>>,
     routes: &Routes,
-    book: DoorBook<MemoryDoor, T, B, O>,
+    book: DoorBook<MemoryDoor, T, B, O, E>,
     gate: &G,
 ) -> Option<Left>
-    requires named { (T.passes ≡ T.parts) × (T.passes ≡ B.parts) × (T.passes ≡ O.parts) }
+    requires named { (T.passes ≡ T.parts) × (T.passes ≡ B.parts) × (T.passes ≡ O.parts) × (T.passes ≡ E.parts) }
     requires all { (vec_len desks ≡ T.passes) × (vec_len desks ≡ J.parts) }
     requires some { (0 < T.passes) × (T.passes ≤ 16) }
     requires unused { All (λ d. d.pass ≡ no_tallies) desks.items }
@@ -147,6 +148,7 @@ fn over_door<
     T: Stating + Send,
     B: Ledger + Send,
     O: Ledger + Send,
+    E: Ledger + Send,
 >(
     rt: &R,
     alloc: Global,
@@ -157,16 +159,16 @@ fn over_door<
     gate: &G,
 ) -> Option<Left>
     requires seats { (vec_len seats ≡ 2) × (2 ≡ J.parts) }
-    requires fresh { (handed_by door ≡ 0) × (back_at door ≡ 0) × (nones_of door ≡ 0) }
-    requires names { (tickets.taken.name ≡ T.name) × (tickets.out.name ≡ B.name) × (tickets.overs.name ≡ O.name) }
-    requires parts { (tickets.taken.parts ≡ T.parts) × (tickets.out.parts ≡ B.parts) × (tickets.overs.parts ≡ O.parts) }
-    requires all { (2 ≡ T.parts) × (2 ≡ B.parts) × (2 ≡ O.parts) }
+    requires fresh { (handed_by door ≡ 0) × (back_at door ≡ 0) × (nones_of door ≡ 0) × (entered_by door ≡ 0) }
+    requires names { (tickets.taken.name ≡ T.name) × (tickets.out.name ≡ B.name) × (tickets.overs.name ≡ O.name) × (tickets.entered.name ≡ E.name) }
+    requires parts { (tickets.taken.parts ≡ T.parts) × (tickets.out.parts ≡ B.parts) × (tickets.overs.parts ≡ O.parts) × (tickets.entered.parts ≡ E.parts) }
+    requires all { (2 ≡ T.parts) × (2 ≡ B.parts) × (2 ≡ O.parts) × (2 ≡ E.parts) }
     requires stated { (2 ≡ T.stated) × (2 ≡ T.passes) }
     requires opening { faults_at door ≡ T.opening }
     requires steady { T.steady ≡ false }
 {
     let routes = Routes::new(alloc).ok()?;
-    match open_door::<MemoryDoor, T, B, O>(alloc, door, tickets, 2, 2) {
+    match open_door::<MemoryDoor, T, B, O, E>(alloc, door, tickets, 2, 2) {
         Err(_refused) => None,
         Ok((book, passes)) => match set_up(alloc, seats, passes) {
             None => {
@@ -193,9 +195,9 @@ fn by_seats<
     gate: &G,
 ) -> Option<Left>
     requires seats { (vec_len seats ≡ 2) × (2 ≡ J.parts) }
-    requires fresh { (handed_by door ≡ 0) × (back_at door ≡ 0) × (nones_of door ≡ 0) }
+    requires fresh { (handed_by door ≡ 0) × (back_at door ≡ 0) × (nones_of door ≡ 0) × (entered_by door ≡ 0) }
 {
-    over_door::<J, C, R, G, Brand, Brand, Brand>(
+    over_door::<J, C, R, G, Brand, Brand, Brand, Brand>(
         rt,
         alloc,
         writer,
@@ -225,7 +227,7 @@ fn over_index<
     requires parts { (2 ≡ J.places) × (2 ≡ J.parts) }
     requires conf { conf ≡ J.conf }
     requires opening { J.opening ≡ Some (empty_history 0) }
-    requires fresh { (handed_by door ≡ 0) × (back_at door ≡ 0) × (nones_of door ≡ 0) }
+    requires fresh { (handed_by door ≡ 0) × (back_at door ≡ 0) × (nones_of door ≡ 0) × (entered_by door ≡ 0) }
 {
     let opened = open_index::<J, NoKeeper, ListGraph, R>(
         rt, alloc, naming, conf, NoKeeper, 2, grants,
@@ -243,7 +245,7 @@ pub(crate) fn two_workers<R: Threads + Wait + Copy + Drop + Send + Sync, G: Gate
     door: MemoryDoor,
     gate: &G,
 ) -> Option<Left>
-    requires fresh { (handed_by door ≡ 0) × (back_at door ≡ 0) × (nones_of door ≡ 0) }
+    requires fresh { (handed_by door ≡ 0) × (back_at door ≡ 0) × (nones_of door ≡ 0) × (entered_by door ≡ 0) }
 {
     let conf = Conf::make(16, 2)?;
     let mut grants = Grants::new();

@@ -27,15 +27,17 @@ end_of ends.Spent false = WriteFault
 end_of ends.Closed true = Done
 end_of ends.Closed false = WriteFault
 
--- a door at one moment: how many links it handed out and got back, how often it was closed, and how often it failed
+-- a door at one moment: how many links it handed out and got back, how often it was closed and how often it failed, and how
+-- much entered by the sessions of those that came back
 pub record DoorAt : Type 0 where
   pub handed : ℕ
   pub back : ℕ
   pub nones : ℕ
   pub faults : ℕ
+  pub entered : ℕ
 
-abbrev pub door_at : ℕ → ℕ → ℕ → ℕ → DoorAt
-door_at handed back nones faults = record { handed = handed; back = back; nones = nones; faults = faults }
+abbrev pub door_at : ℕ → ℕ → ℕ → ℕ → ℕ → DoorAt
+door_at handed back nones faults entered = record { handed = handed; back = back; nones = nones; faults = faults; entered = entered }
 
 -- the first line was written, and of the last one a proper beginning
 pub record CutLast (old new : Outgoing) (port sessions length : ℕ) : Type 0 where
@@ -61,14 +63,14 @@ pub record Told (plan : Plan) (length : ℕ) (a b : DoorAt) (old new : Outgoing)
   pub done : end ≡ Done → (b.handed ≡ plan.sessions) ⊎ (0 < b.nones)
   pub fault : end ≡ DoorFault → Rose a.faults b.faults
 
--- an index was served: the last history begins with the opening one, it is longer by what entered, it is left, and its
--- length is told
-pub record Service (plan : Plan) (opens left : History → Type 0) (entered : ℕ) (a b : DoorAt) (old new : Outgoing) (end : ServiceEnd) : Type 0 where
+-- an index was served: the last history begins with the opening one, it is longer by what the sessions said that entered, it
+-- is left, and its length is told
+pub record Service (plan : Plan) (opens left : History → Type 0) (a b : DoorAt) (old new : Outgoing) (end : ServiceEnd) : Type 0 where
   pub opening : History
   pub opened : opens opening
   pub last : History
   pub begins : Begins opening last
-  pub entered_is : length_of last ≡ length_of opening + entered
+  pub entered_is : length_of last ≡ length_of opening + b.entered
   pub bounded : length_of last ≤ 2 ^ 48
   pub kept : left last
   pub told : Told plan (length_of last) a b old new end

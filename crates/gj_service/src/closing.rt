@@ -15,12 +15,11 @@ use std::sync::ledger::Ledger;
 use std::sync::{Mutex, Wait};
 use std::thread::Threads;
 
-/// What is left after the workers: the two numbers of the last line, how much entered through the sessions, the end that
-/// the door's book met, the door and the writer.
+/// What is left after the workers: the two numbers of the last line, the end that the door's book met, the door and the
+/// writer.
 pub struct Rest<D, J: Opening, C: Copies<Operation = Batch<J>>, K: Keeper + Drop> {
     pub sessions: u64,
     pub length: u64,
-    pub entered: u64,
     pub end: DoorEnd,
     pub door: D,
     pub writer: Writer<J, C, K>,
@@ -28,17 +27,17 @@ pub struct Rest<D, J: Opening, C: Copies<Operation = Batch<J>>, K: Keeper + Drop
 
 /// The passes and the seats of desks whose workers have ended.
 #[derive(Drop)]
-struct Cleared<W: Grow + Drop, J: Opening, T: Stating, B: Ledger, O: Ledger> {
-    passes: Vec<Pass<T, B, O>>,
+struct Cleared<W: Grow + Drop, J: Opening, T: Stating, B: Ledger, O: Ledger, E: Ledger> {
+    passes: Vec<Pass<T, B, O, E>>,
     seats: Vec<Seat<W, J>>,
 }
 
 /// Takes the desks apart. It takes no memory.
-fn clear<W: Grow + Drop, J: Opening, T: Stating, B: Ledger, O: Ledger>(
-    mut desks: Vec<Desk<W, J, T, B, O>>,
-    mut passes: Vec<Pass<T, B, O>>,
+fn clear<W: Grow + Drop, J: Opening, T: Stating, B: Ledger, O: Ledger, E: Ledger>(
+    mut desks: Vec<Desk<W, J, T, B, O, E>>,
+    mut passes: Vec<Pass<T, B, O, E>>,
     mut seats: Vec<Seat<W, J>>,
-) -> Cleared<W, J, T, B, O>
+) -> Cleared<W, J, T, B, O, E>
     requires served { All (λ d. IsServedDesk d.seat.posted d.pass) desks.items }
     requires none { (vec_len passes ≡ 0) × (vec_len seats ≡ 0) }
     requires room { (vec_len desks ≤ vec_capacity passes) × (vec_len desks ≤ vec_capacity seats) }
@@ -72,17 +71,18 @@ pub fn serve_desks<
     T: Stating + Send,
     B: Ledger + Send,
     O: Ledger + Send,
+    E: Ledger + Send,
 >(
     rt: &R,
     alloc: Global,
     writer: Writer<J, C, K>,
-    mut desks: Vec<Desk<W, J, T, B, O>>,
-    passes: Vec<Pass<T, B, O>>,
+    mut desks: Vec<Desk<W, J, T, B, O, E>>,
+    passes: Vec<Pass<T, B, O, E>>,
     seats: Vec<Seat<W, J>>,
     routes: &Routes,
-    book: DoorBook<D, T, B, O>,
+    book: DoorBook<D, T, B, O, E>,
 ) -> Rest<D, J, C, K>
-    requires named { (T.passes ≡ T.parts) × (T.passes ≡ B.parts) × (T.passes ≡ O.parts) }
+    requires named { (T.passes ≡ T.parts) × (T.passes ≡ B.parts) × (T.passes ≡ O.parts) × (T.passes ≡ E.parts) }
     requires all { (vec_len desks ≡ T.passes) × (vec_len desks ≡ J.parts) }
     requires some { 0 < T.passes }
     requires few { T.passes ≤ 16 }
@@ -101,7 +101,7 @@ pub fn serve_desks<
 
     // The history is what it was at opening, and what the sessions said that entered.
     ensures length { result.length ≡ length_of result.writer.accepted }
-    ensures entered { result.length ≡ result.writer.start + result.entered }
+    ensures entered { result.length ≡ result.writer.start + D.entered result.door }
 {
     let writer = Mutex::new(writer);
     let book = Mutex::new(book);
@@ -122,7 +122,6 @@ pub fn serve_desks<
     Rest {
         sessions: served.sessions,
         length: writer.length(),
-        entered: served.entered,
         end: served.door,
         door: book.into_door(),
         writer,

@@ -20,10 +20,9 @@ use std::sync::Wait;
 use std::sync::ledger::Ledger;
 use std::thread::Threads;
 
-/// How serving ended and how much entered, with the door and the writer.
+/// How serving ended, with the door and the writer.
 pub struct Listened<D, J: Opening, C: Copies<Operation = Batch<J>>, K: Keeper + Drop> {
     pub end: ServiceEnd,
-    pub entered: u64,
     pub door: D,
     pub writer: Writer<J, C, K>,
 }
@@ -41,6 +40,7 @@ pub fn serve_listening<
     T: Stating + Send,
     B: Ledger + Send,
     O: Ledger + Send,
+    E: Ledger + Send,
 >(
     rt: &R,
     alloc: Global,
@@ -52,36 +52,35 @@ pub fn serve_listening<
     routes: &Routes,
     out: &mut X,
 ) -> Listened<D, J, C, K>
-    requires fresh { (D.handed door ≡ 0) × (D.back door ≡ 0) × (D.nones door ≡ 0) }
+    requires fresh { (D.handed door ≡ 0) × (D.back door ≡ 0) × (D.nones door ≡ 0) × (D.entered door ≡ 0) }
     requires plan { IsPlan plan }
     requires seats { (vec_len seats ≡ plan.workers) × (vec_len seats ≡ J.parts) }
     requires unused { All (λ s. s.posted ≡ 0) seats.items }
     requires opened { writer.start ≡ length_of writer.accepted }
-    requires names { (tickets.taken.name ≡ T.name) × (tickets.out.name ≡ B.name) × (tickets.overs.name ≡ O.name) }
-    requires parts { (tickets.taken.parts ≡ T.parts) × (tickets.out.parts ≡ B.parts) × (tickets.overs.parts ≡ O.parts) }
-    requires all { (vec_len seats ≡ T.parts) × (vec_len seats ≡ B.parts) × (vec_len seats ≡ O.parts) × (vec_len seats ≡ T.passes) }
+    requires names { (tickets.taken.name ≡ T.name) × (tickets.out.name ≡ B.name) × (tickets.overs.name ≡ O.name) × (tickets.entered.name ≡ E.name) }
+    requires parts { (tickets.taken.parts ≡ T.parts) × (tickets.out.parts ≡ B.parts) × (tickets.overs.parts ≡ O.parts) × (tickets.entered.parts ≡ E.parts) }
+    requires all { (vec_len seats ≡ T.parts) × (vec_len seats ≡ B.parts) × (vec_len seats ≡ O.parts) × (vec_len seats ≡ E.parts) × (vec_len seats ≡ T.passes) }
     requires stated { plan.sessions ≡ T.stated }
     requires opening { D.faults door ≡ T.opening }
     requires steady { IsTrue T.steady → IsTrue (D.steady door) }
 
     // What was written, and what became of the door: each link that was handed out was served and came back.
     ensures told { Told plan (length_of result.writer.accepted)
-        (door_at (D.handed door) (D.back door) (D.nones door) (D.faults door))
-        (door_at (D.handed result.door) (D.back result.door) (D.nones result.door) (D.faults result.door))
+        (door_at (D.handed door) (D.back door) (D.nones door) (D.faults door) (D.entered door))
+        (door_at (D.handed result.door) (D.back result.door) (D.nones result.door) (D.faults result.door) (D.entered result.door))
         (outgoing (X.tells out.old) (X.written out.old) (X.faults out.old) (X.sure out.old))
         (outgoing (X.tells out.new) (X.written out.new) (X.faults out.new) (X.sure out.new)) result.end }
     ensures steady { IsTrue T.steady → result.end ≢ ends.DoorFault }
 
     // The history is what it was at opening, and what the sessions said that entered.
-    ensures entered { length_of result.writer.accepted ≡ result.writer.start + result.entered }
+    ensures entered { length_of result.writer.accepted ≡ result.writer.start + D.entered result.door }
 
     // Without memory for the workers nothing is done.
     ensures untouched { result.end ≡ ends.Memory → (result.door ≡ door) × (result.writer ≡ writer) × (out.new ≡ out.old) }
 {
-    match prepare::<D, W, J, T, B, O>(alloc, door, tickets, plan.sessions, seats) {
+    match prepare::<D, W, J, T, B, O, E>(alloc, door, tickets, plan.sessions, seats) {
         Err(NoDoor { door }) => Listened {
             end: ServiceEnd::Memory,
-            entered: 0,
             door,
             writer,
         },
@@ -96,7 +95,6 @@ pub fn serve_listening<
             if let Err(Failed) = send_ready(out, plan.port) {
                 return Listened {
                     end: ServiceEnd::WriteFault,
-                    entered: 0,
                     door: book.into_door(),
                     writer,
                 };
@@ -104,14 +102,12 @@ pub fn serve_listening<
             let Rest {
                 sessions,
                 length,
-                entered,
                 end,
                 door,
                 writer,
             } = serve_desks(rt, alloc, writer, desks, passes, seats, routes, book);
             Listened {
                 end: send_end(out, end, sessions, length),
-                entered,
                 door,
                 writer,
             }

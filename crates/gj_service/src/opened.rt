@@ -23,10 +23,9 @@ use std::marker::Brand;
 use std::sync::Wait;
 use std::thread::Threads;
 
-/// How a service ended and how much entered through its sessions, with the keeper and the door.
+/// How a service ended, with the keeper and the door.
 pub struct Over<K, D> {
     pub end: ServiceEnd,
-    pub entered: u64,
     pub keeper: K,
     pub door: D,
 }
@@ -34,11 +33,10 @@ pub struct Over<K, D> {
 /// Gives the keeper of the writer back. It may wait for looks that began before.
 fn close<D, J: Opening, C: Copies<Operation = Batch<J>>, K: Keeper + Drop>(
     end: ServiceEnd,
-    entered: u64,
     door: D,
     writer: Writer<J, C, K>,
 ) -> Over<K, D>
-    ensures numbers { (result.end ≡ end) × (result.entered ≡ entered) × (result.door ≡ door) }
+    ensures numbers { (result.end ≡ end) × (result.door ≡ door) }
     ensures keeps { Keeps J.conf (K.kept result.keeper) writer.accepted }
     ensures same { (K.kept result.keeper ≡ writer.kept) × (K.faults result.keeper ≡ writer.faults) }
     ensures bounded { length_of writer.accepted ≤ 2 ^ 48 }
@@ -47,7 +45,6 @@ fn close<D, J: Opening, C: Copies<Operation = Batch<J>>, K: Keeper + Drop>(
     let _ = (writer.start(), writer.length());
     Over {
         end,
-        entered,
         keeper: writer.into_keeper(),
         door,
     }
@@ -74,14 +71,14 @@ fn serve_index<
     seats: Vec<Seat<W, J>>,
     out: &mut X,
 ) -> Over<K, D>
-    requires fresh { (D.handed door ≡ 0) × (D.back door ≡ 0) × (D.nones door ≡ 0) }
+    requires fresh { (D.handed door ≡ 0) × (D.back door ≡ 0) × (D.nones door ≡ 0) × (D.entered door ≡ 0) }
     requires plan { IsPlan plan }
     requires seats { (vec_len seats ≡ plan.workers) × (vec_len seats ≡ J.parts) }
     requires unused { All (λ s. s.posted ≡ 0) seats.items }
     requires opened { writer.start ≡ length_of writer.accepted }
-    ensures service { Service plan (λ h. IfSome J.opening (λ o. o ≡ h)) (Keeps J.conf (K.kept result.keeper)) result.entered
-        (door_at (D.handed door) (D.back door) (D.nones door) (D.faults door))
-        (door_at (D.handed result.door) (D.back result.door) (D.nones result.door) (D.faults result.door))
+    ensures service { Service plan (λ h. IfSome J.opening (λ o. o ≡ h)) (Keeps J.conf (K.kept result.keeper))
+        (door_at (D.handed door) (D.back door) (D.nones door) (D.faults door) (D.entered door))
+        (door_at (D.handed result.door) (D.back result.door) (D.nones result.door) (D.faults result.door) (D.entered result.door))
         (outgoing (X.tells out.old) (X.written out.old) (X.faults out.old) (X.sure out.old))
         (outgoing (X.tells out.new) (X.written out.new) (X.faults out.new) (X.sure out.new)) result.end }
     ensures back { D.back result.door ≡ D.handed result.door }
@@ -90,21 +87,20 @@ fn serve_index<
 {
     let mut door = door;
     let Ok(routes) = Routes::new(alloc) else {
-        return close(ServiceEnd::Memory, 0, door, writer);
+        return close(ServiceEnd::Memory, door, writer);
     };
     if let Err(Failed) = door.listen(plan.port) {
-        return close(ServiceEnd::DoorFault, 0, door, writer);
+        return close(ServiceEnd::DoorFault, door, writer);
     }
     let tickets = Tickets::new(plan.workers);
     let Listened {
         end,
-        entered,
         door,
         writer,
-    } = serve_listening::<R, D, J, C, K, W, X, Brand, Brand, Brand>(
+    } = serve_listening::<R, D, J, C, K, W, X, Brand, Brand, Brand, Brand>(
         rt, alloc, plan, door, tickets, writer, seats, &routes, out,
     );
-    close(end, entered, door, writer)
+    close(end, door, writer)
 }
 
 /// The same from the opening of an index, which has a name.
@@ -126,16 +122,16 @@ fn serve_named<
     out: &mut X,
     grants: &mut Grants,
 ) -> Over<K, D>
-    requires fresh { (D.handed door ≡ 0) × (D.back door ≡ 0) × (D.nones door ≡ 0) }
+    requires fresh { (D.handed door ≡ 0) × (D.back door ≡ 0) × (D.nones door ≡ 0) × (D.entered door ≡ 0) }
     requires plan { IsPlan plan }
     requires grants { grants.old < 2 ^ 40 }
     requires named { (naming.history ≡ J.book) × (naming.blank.name ≡ J.name) × (naming.blank.parts ≡ J.parts) }
     requires parts { (plan.workers ≡ J.places) × (plan.workers ≡ J.parts) }
     requires conf { conf ≡ J.conf }
     requires opening { J.opening ≡ opening_of (K.kept keeper) }
-    ensures service { IsOpened result.end → Service plan (λ h. IfSome (opening_of (K.kept keeper)) (λ o. o ≡ h)) (Keeps conf (K.kept result.keeper)) result.entered
-        (door_at (D.handed door) (D.back door) (D.nones door) (D.faults door))
-        (door_at (D.handed result.door) (D.back result.door) (D.nones result.door) (D.faults result.door))
+    ensures service { IsOpened result.end → Service plan (λ h. IfSome (opening_of (K.kept keeper)) (λ o. o ≡ h)) (Keeps conf (K.kept result.keeper))
+        (door_at (D.handed door) (D.back door) (D.nones door) (D.faults door) (D.entered door))
+        (door_at (D.handed result.door) (D.back result.door) (D.nones result.door) (D.faults result.door) (D.entered result.door))
         (outgoing (X.tells out.old) (X.written out.old) (X.faults out.old) (X.sure out.old))
         (outgoing (X.tells out.new) (X.written out.new) (X.faults out.new) (X.sure out.new)) result.end }
     ensures back { D.back result.door ≡ D.handed result.door }
@@ -152,7 +148,6 @@ fn serve_named<
     match open_index::<J, K, W, R>(rt, alloc, naming, conf, keeper, plan.workers, grants) {
         Err(OpenRefused { keeper, why }) => Over {
             end: ServiceEnd::Refused(why),
-            entered: 0,
             keeper,
             door,
         },
@@ -182,14 +177,14 @@ pub fn serve_over<
     out: &mut X,
     grants: &mut Grants,
 ) -> Over<K, D>
-    requires fresh { (D.handed door ≡ 0) × (D.back door ≡ 0) × (D.nones door ≡ 0) }
+    requires fresh { (D.handed door ≡ 0) × (D.back door ≡ 0) × (D.nones door ≡ 0) × (D.entered door ≡ 0) }
     requires plan { IsPlan plan }
     requires grants { grants.old < 2 ^ 40 }
 
     // What was served, written and kept, where the index was opened.
-    ensures service { IsOpened result.end → Service plan (λ h. IfSome (opening_of (K.kept keeper)) (λ o. o ≡ h)) (Keeps conf (K.kept result.keeper)) result.entered
-        (door_at (D.handed door) (D.back door) (D.nones door) (D.faults door))
-        (door_at (D.handed result.door) (D.back result.door) (D.nones result.door) (D.faults result.door))
+    ensures service { IsOpened result.end → Service plan (λ h. IfSome (opening_of (K.kept keeper)) (λ o. o ≡ h)) (Keeps conf (K.kept result.keeper))
+        (door_at (D.handed door) (D.back door) (D.nones door) (D.faults door) (D.entered door))
+        (door_at (D.handed result.door) (D.back result.door) (D.nones result.door) (D.faults result.door) (D.entered result.door))
         (outgoing (X.tells out.old) (X.written out.old) (X.faults out.old) (X.sure out.old))
         (outgoing (X.tells out.new) (X.written out.new) (X.faults out.new) (X.sure out.new)) result.end }
     ensures back { D.back result.door ≡ D.handed result.door }

@@ -12,10 +12,10 @@ use std::alloc::Global;
 use std::sync::ledger::Ledger;
 
 /// The door's book, the desks, and lists with room for their passes and seats.
-pub(crate) struct Prepared<D: Door, W: Grow + Drop, J: Opening, T: Stating, B: Ledger, O: Ledger> {
-    pub book: DoorBook<D, T, B, O>,
-    pub desks: Vec<Desk<W, J, T, B, O>>,
-    pub passes: Vec<Pass<T, B, O>>,
+pub(crate) struct Prepared<D: Door, W: Grow + Drop, J: Opening, T: Stating, B: Ledger, O: Ledger, E: Ledger> {
+    pub book: DoorBook<D, T, B, O, E>,
+    pub desks: Vec<Desk<W, J, T, B, O, E>>,
+    pub passes: Vec<Pass<T, B, O, E>>,
     pub seats: Vec<Seat<W, J>>,
 }
 
@@ -31,12 +31,12 @@ fn framers_for(alloc: Global, count: usize) -> Option<Vec<Framer>>
 }
 
 /// A desk for each pass, with a seat and a framer.
-fn set_up<W: Grow + Drop, J: Opening, T: Stating, B: Ledger, O: Ledger>(
-    mut desks: Vec<Desk<W, J, T, B, O>>,
+fn set_up<W: Grow + Drop, J: Opening, T: Stating, B: Ledger, O: Ledger, E: Ledger>(
+    mut desks: Vec<Desk<W, J, T, B, O, E>>,
     mut seats: Vec<Seat<W, J>>,
-    mut passes: Vec<Pass<T, B, O>>,
+    mut passes: Vec<Pass<T, B, O, E>>,
     mut framers: Vec<Framer>,
-) -> Vec<Desk<W, J, T, B, O>>
+) -> Vec<Desk<W, J, T, B, O, E>>
     requires none { vec_len desks ≡ 0 }
     requires room { vec_len seats ≤ vec_capacity desks }
     requires same { (vec_len passes ≡ vec_len seats) × (vec_len framers ≡ vec_len seats) }
@@ -54,19 +54,19 @@ fn set_up<W: Grow + Drop, J: Opening, T: Stating, B: Ledger, O: Ledger>(
 }
 
 /// The door's book, the desks and the lists. It takes all memory that follows the number of workers.
-pub(crate) fn prepare<D: Door, W: Grow + Drop, J: Opening, T: Stating, B: Ledger, O: Ledger>(
+pub(crate) fn prepare<D: Door, W: Grow + Drop, J: Opening, T: Stating, B: Ledger, O: Ledger, E: Ledger>(
     alloc: Global,
     door: D,
     tickets: Tickets,
     sessions: u64,
     seats: Vec<Seat<W, J>>,
-) -> Result<Prepared<D, W, J, T, B, O>, NoDoor<D>>
-    requires fresh { (D.handed door ≡ 0) × (D.back door ≡ 0) × (D.nones door ≡ 0) }
+) -> Result<Prepared<D, W, J, T, B, O, E>, NoDoor<D>>
+    requires fresh { (D.handed door ≡ 0) × (D.back door ≡ 0) × (D.nones door ≡ 0) × (D.entered door ≡ 0) }
     requires sessions { (1 ≤ sessions) × (sessions ≤ 1000000000) }
     requires seats { (1 ≤ vec_len seats) × (vec_len seats ≤ 16) }
-    requires names { (tickets.taken.name ≡ T.name) × (tickets.out.name ≡ B.name) × (tickets.overs.name ≡ O.name) }
-    requires parts { (tickets.taken.parts ≡ T.parts) × (tickets.out.parts ≡ B.parts) × (tickets.overs.parts ≡ O.parts) }
-    requires all { (vec_len seats ≡ T.parts) × (vec_len seats ≡ B.parts) × (vec_len seats ≡ O.parts) }
+    requires names { (tickets.taken.name ≡ T.name) × (tickets.out.name ≡ B.name) × (tickets.overs.name ≡ O.name) × (tickets.entered.name ≡ E.name) }
+    requires parts { (tickets.taken.parts ≡ T.parts) × (tickets.out.parts ≡ B.parts) × (tickets.overs.parts ≡ O.parts) × (tickets.entered.parts ≡ E.parts) }
+    requires all { (vec_len seats ≡ T.parts) × (vec_len seats ≡ B.parts) × (vec_len seats ≡ O.parts) × (vec_len seats ≡ E.parts) }
     requires stated { sessions ≡ T.stated }
     requires opening { D.faults door ≡ T.opening }
     requires steady { IsTrue T.steady → IsTrue (D.steady door) }

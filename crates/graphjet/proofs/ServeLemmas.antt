@@ -37,20 +37,18 @@ known_told kept h tells untold is =
     sym there
 
 -- a service over a keeper is one over the stores from which it came, and where it is at home again
-pub serves_home : (conf : Configuration) (path : List ℕ) (plan : Plan) (old new kept kept' : Kept) (f f' : ℕ) (sure sure' : Bool) (entered : ℕ) (d e : DoorAt) (o p : Outgoing) (end : ServiceEnd)
+pub serves_home : (conf : Configuration) (path : List ℕ) (plan : Plan) (old new kept kept' : Kept) (f f' : ℕ) (sure sure' : Bool) (d e : DoorAt) (o p : Outgoing) (end : ServiceEnd)
     → (IsTrue old.tells → kept ≡ old) → new.tells ≡ old.tells → (IsTrue old.tells → new ≡ kept') → (IsTrue kept.bare → kept.tells ≡ false)
-    → (IsOpened end → Service plan (λ h. IfSome (opening_of kept) (λ x. x ≡ h)) (Keeps conf kept') entered d e o p end)
+    → (IsOpened end → Service plan (λ h. IfSome (opening_of kept) (λ x. x ≡ h)) (Keeps conf kept') d e o p end)
     → (IsUnserved end → IsLeft conf kept kept')
     → (IsTrue kept.tells → Judges (due conf kept) end)
     → Serves conf (Some path) plan (record { stored = old; faults = f; steady = sure }) (record { stored = new; faults = f'; steady = sure' }) d e o p end
-serves_home conf path plan old new kept kept' f f' sure sure' entered d e o p end out told home untold service left judged = record {
-  service = λ is. (
-    entered,
-    service_as plan _ _ _ _ entered d e o p end
-        (λ h k yes. (let same = out yes in known_told kept h (ap (λ (x : Kept). x.tells) same ∙ yes) untold k ∙ ap (λ (x : Kept). opened (told_rows x)) same))
-        (λ h. keeps_home conf old new kept' h told home)
-        (service is),
-  );
+serves_home conf path plan old new kept kept' f f' sure sure' d e o p end out told home untold service left judged = record {
+  service = λ is.
+      service_as plan _ _ _ _ d e o p end
+      (λ h k yes. (let same = out yes in known_told kept h (ap (λ (x : Kept). x.tells) same ∙ yes) untold k ∙ ap (λ (x : Kept). opened (told_rows x)) same))
+      (λ h. keeps_home conf old new kept' h told home)
+      (service is);
   judged = λ yes. (let is = out yes in subst (λ (x : Kept). Judges (due conf x) end) is (judged (ap (λ (x : Kept). x.tells) is ∙ yes)));
   kept = λ no yes. (
       let is = out yes in
@@ -149,13 +147,13 @@ refused_of ends.DoorFault u = absurd u
 refused_of ends.Memory u = absurd u
 refused_of (ends.Refused error) u = (error, refl)
 
-write_rose : (plan : Plan) (opens left : History → Type 0) (entered : ℕ) (d e : DoorAt) (o p : Outgoing) (end : ServiceEnd) → end ≡ ends.WriteFault
-    → Service plan opens left entered d e o p end → Rose o.faults p.faults
-write_rose plan opens left entered d e o p ends.WriteFault is s = s.told.wrote.failed
-write_rose plan opens left entered d e o p ends.Done is s = cc
-write_rose plan opens left entered d e o p ends.DoorFault is s = cc
-write_rose plan opens left entered d e o p ends.Memory is s = cc
-write_rose plan opens left entered d e o p (ends.Refused error) is s = cc
+write_rose : (plan : Plan) (opens left : History → Type 0) (d e : DoorAt) (o p : Outgoing) (end : ServiceEnd) → end ≡ ends.WriteFault
+    → Service plan opens left d e o p end → Rose o.faults p.faults
+write_rose plan opens left d e o p ends.WriteFault is s = s.told.wrote.failed
+write_rose plan opens left d e o p ends.Done is s = cc
+write_rose plan opens left d e o p ends.DoorFault is s = cc
+write_rose plan opens left d e o p ends.Memory is s = cc
+write_rose plan opens left d e o p (ends.Refused error) is s = cc
 
 is_opened : (end : ServiceEnd) → (end ≡ ends.WriteFault) ⊎ (end ≡ ends.DoorFault) → IsOpened end
 is_opened ends.Done is = tt
@@ -170,27 +168,26 @@ pub serves_write : (conf : Configuration) (store : Option (List ℕ)) (plan : Pl
     → status_of_service end ≡ WriteFault → Rose o.faults p.faults
 serves_write conf store plan a b d e o p end x is =
     let at = end_of_write end is in
-    let s = x.service (is_opened end (inl at)) in
-    write_rose plan _ _ s.0 d e o p end at s.1
+    write_rose plan _ _ d e o p end at (x.service (is_opened end (inl at)))
 
 pub serves_door : (conf : Configuration) (store : Option (List ℕ)) (plan : Plan) (a b : StoresAt) (d e : DoorAt) (o p : Outgoing) (end : ServiceEnd) → Serves conf store plan a b d e o p end
     → status_of_service end ≡ DoorFault → Rose d.faults e.faults
 serves_door conf store plan a b d e o p end x is =
     let at = end_of_door end is in
-    (x.service (is_opened end (inr at))).1.told.fault at
+    (x.service (is_opened end (inr at))).told.fault at
 
-no_write : (plan : Plan) (opens left : History → Type 0) (entered : ℕ) (d e : DoorAt) (o p : Outgoing) (end : ServiceEnd) → HasRoom plan.port o.sure
-    → end ≡ ends.WriteFault → Service plan opens left entered d e o p end → ⊥
-no_write plan opens left entered d e o p ends.WriteFault room is s =
+no_write : (plan : Plan) (opens left : History → Type 0) (d e : DoorAt) (o p : Outgoing) (end : ServiceEnd) → HasRoom plan.port o.sure
+    → end ≡ ends.WriteFault → Service plan opens left d e o p end → ⊥
+no_write plan opens left d e o p ends.WriteFault room is s =
     let few = s.told.few in
     let bounded = s.bounded in
     let spent = s.told.wrote.spent in
     let fits = room e.handed (length_of s.last) few (omega (arith, bounded)) in
     omega (arith, spent, fits)
-no_write plan opens left entered d e o p ends.Done room is s = cc
-no_write plan opens left entered d e o p ends.DoorFault room is s = cc
-no_write plan opens left entered d e o p ends.Memory room is s = cc
-no_write plan opens left entered d e o p (ends.Refused error) room is s = cc
+no_write plan opens left d e o p ends.Done room is s = cc
+no_write plan opens left d e o p ends.DoorFault room is s = cc
+no_write plan opens left d e o p ends.Memory room is s = cc
+no_write plan opens left d e o p (ends.Refused error) room is s = cc
 
 accepted : (conf : Configuration) (store : Option (List ℕ)) (stored : Kept) (end : ServiceEnd) → Accepts store conf stored → IsServable store conf stored end → Judges None end
 accepted conf None stored end taken judged = judged.0
@@ -214,4 +211,4 @@ pub serves_all : (conf : Configuration) (store : Option (List ℕ)) (plan : Plan
     → (status_of_service end ≡ Done) ⊎ ((status_of_service end ≡ Memory) ⊎ (status_of_service end ≡ NoPlace))
 serves_all conf store plan a b d e o p end x taken room door fault =
     completes end (accepted conf store a.stored end taken x.judged) door fault
-    (λ is. (let s = x.service (is_opened end (inl is)) in no_write plan _ _ s.0 d e o p end room is s.1))
+    (λ is. no_write plan _ _ d e o p end room is (x.service (is_opened end (inl is))))

@@ -41,7 +41,7 @@ IsServable (Some path) conf stored end = IsTrue stored.tells → Judges (due con
 
 -- a service over a window that a store keeps or none
 pub record Serves (conf : Configuration) (store : Option (List ℕ)) (plan : Plan) (a b : StoresAt) (d e : DoorAt) (old new : Outgoing) (end : ServiceEnd) : Type 0 where
-  pub service : IsOpened end → (entered : ℕ) × Service plan (Opens store a.stored) (Leaves store conf b.stored) entered d e old new end
+  pub service : IsOpened end → Service plan (Opens store a.stored) (Leaves store conf b.stored) d e old new end
   pub judged : IsServable store conf a.stored end
   pub kept : IsUnserved end → IsKept conf a.stored b.stored
 

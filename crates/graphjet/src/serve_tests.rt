@@ -26,7 +26,7 @@ fn link_over(alloc: Global) -> Result<MemoryLink, Fail>
 
 /// A door of two such links, whose calls with these numbers fail.
 fn door_of(alloc: Global, fails: Vec<u64>) -> Result<MemoryDoor, Fail>
-    ensures { IfOk result (λ d. (handed_by d ≡ 0) × (back_at d ≡ 0) × (nones_of d ≡ 0)) }
+    ensures { IfOk result (λ d. (handed_by d ≡ 0) × (back_at d ≡ 0) × (nones_of d ≡ 0) × (entered_by d ≡ 0)) }
 {
     let mut links = Vec::with_capacity(alloc, 2)?;
     let first = link_over(alloc)?;
@@ -36,7 +36,7 @@ fn door_of(alloc: Global, fails: Vec<u64>) -> Result<MemoryDoor, Fail>
     Ok(MemoryDoor::new(alloc, links, fails)?)
 }
 
-ghost use Rattle.gj_serve.specs.MemoryDoors.{handed_by, back_at, nones_of};
+ghost use Rattle.gj_serve.specs.MemoryDoors.{handed_by, back_at, nones_of, entered_by};
 
 /// What a service left.
 #[derive(Drop)]
@@ -53,7 +53,7 @@ fn served<R: Threads + Wait + Copy + Drop + Send + Sync>(
     line: &str,
     door: MemoryDoor,
 ) -> Result<Left, Fail>
-    requires { (handed_by door ≡ 0) × (back_at door ≡ 0) × (nones_of door ≡ 0) }
+    requires { (handed_by door ≡ 0) × (back_at door ≡ 0) × (nones_of door ≡ 0) × (entered_by door ≡ 0) }
 {
     let mut words = Vec::new(alloc);
     for word in line.split(' ') {

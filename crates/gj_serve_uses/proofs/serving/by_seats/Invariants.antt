@@ -13,3 +13,6 @@ ghosts-over_door-B-Ledger g a = record { name = a.tickets.out.name; parts = a.ti
 
 abbrev pub ghosts-over_door-O-Ledger : goal.ghosts-over_door-O-Ledger
 ghosts-over_door-O-Ledger g a = record { name = a.tickets.overs.name; parts = a.tickets.overs.parts }
+
+abbrev pub ghosts-over_door-E-Ledger : goal.ghosts-over_door-E-Ledger
+ghosts-over_door-E-Ledger g a = record { name = a.tickets.entered.name; parts = a.tickets.entered.parts }

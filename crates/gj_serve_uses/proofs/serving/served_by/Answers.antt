@@ -8,5 +8,5 @@ use Rattle.gj_serve_uses.proofs.serving.served_by.Goals as goal
 pub clear-cleared-requires-clause-told : goal.clear-cleared-requires-clause-told
 clear-cleared-requires-clause-told g c =
     let all : length c.serve_all.new.desks ≡ c.args.desks.len = omega (arith, c.serve_all.auto.desks, c.as_mut_slice.ensures.len) in
-    subst (All (λ (d : Desk ListGraph g.row.J.Denot g.row.T.Denot g.row.B.Denot g.row.O.Denot). 0 < d.pass.overs)) (sym (take_front _ _ _ all))
+    subst (All (λ (d : Desk ListGraph g.row.J.Denot g.row.T.Denot g.row.B.Denot g.row.O.Denot g.row.E.Denot). 0 < d.pass.overs)) (sym (take_front _ _ _ all))
     (λ k d lt. (c.serve_all.ensures k d (omega (arith, lt, c.serve_all.auto.desks))).told)

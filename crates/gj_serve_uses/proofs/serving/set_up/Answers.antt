@@ -18,5 +18,5 @@ loop-seat-preserved g c =
       same = search rules;
       passes = all_front (λ (p : Tallies). p ≡ no_tallies) c.pop-in-Some.new.self.items c.unwrap-pass.result passes;
       unused = rw c.push_reserved.ensures.items
-          (All-push (λ (d : Desk ListGraph g.row.J.Denot g.row.T.Denot g.row.B.Denot g.row.O.Denot). d.pass ≡ no_tallies) c.loop-seat.desks.items _ inv.unused pass);
+          (All-push (λ (d : Desk ListGraph g.row.J.Denot g.row.T.Denot g.row.B.Denot g.row.O.Denot g.row.E.Denot). d.pass ≡ no_tallies) c.loop-seat.desks.items _ inv.unused pass);
     }

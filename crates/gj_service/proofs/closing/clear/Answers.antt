@@ -10,7 +10,7 @@ pub loop-desk-preserved : goal.loop-desk-preserved
 loop-desk-preserved g c =
     let inv = c.loop-desk.invariant in
     let served = rw c.in-Some.ensures.items at inv.served in
-    let here : IsServedDesk c.in-Some.desk.seat.posted c.in-Some.desk.pass = all_last (λ (d : Desk g.row.W.Denot g.row.J.Denot g.row.T.Denot g.row.B.Denot g.row.O.Denot). IsServedDesk d.seat.posted d.pass) c.pop.new.self.items c.in-Some.desk served in
+    let here : IsServedDesk c.in-Some.desk.seat.posted c.in-Some.desk.pass = all_last (λ (d : Desk g.row.W.Denot g.row.J.Denot g.row.T.Denot g.row.B.Denot g.row.O.Denot g.row.E.Denot). IsServedDesk d.seat.posted d.pass) c.pop.new.self.items c.in-Some.desk served in
     let passes = c.push_reserved.ensures.items in
     let taken = sum_more (λ (p : Tallies). p.taken) c.push_reserved.new.self.items c.loop-desk.passes.items c.in-Some.desk.pass passes in
     let back = sum_more (λ (p : Tallies). p.back) c.push_reserved.new.self.items c.loop-desk.passes.items c.in-Some.desk.pass passes in
@@ -18,7 +18,7 @@ loop-desk-preserved g c =
     let entered = sum_more (λ (p : Tallies). p.entered) c.push_reserved.new.self.items c.loop-desk.passes.items c.in-Some.desk.pass passes in
     let posted = sum_more (λ s. s.posted) c.push_reserved-in-Some.new.self.items c.loop-desk.seats.items c.in-Some.desk.seat c.push_reserved-in-Some.ensures.items in
     record {
-      served = all_front (λ (d : Desk g.row.W.Denot g.row.J.Denot g.row.T.Denot g.row.B.Denot g.row.O.Denot). IsServedDesk d.seat.posted d.pass) c.pop.new.self.items c.in-Some.desk served;
+      served = all_front (λ (d : Desk g.row.W.Denot g.row.J.Denot g.row.T.Denot g.row.B.Denot g.row.O.Denot g.row.E.Denot). IsServedDesk d.seat.posted d.pass) c.pop.new.self.items c.in-Some.desk served;
       passes = search rules;
       seats = search rules;
       room = search rules;

@@ -7,7 +7,7 @@ use Rattle.gj_service.proofs.closing.serve_desks.Goals as goal
 
 pub clear-passes-requires-clause-served : goal.clear-passes-requires-clause-served
 clear-passes-requires-clause-served g c =
-    let X : Type 0 = Desk g.row.W.Denot g.row.J.Denot g.row.T.Denot g.row.B.Denot g.row.O.Denot in
+    let X : Type 0 = Desk g.row.W.Denot g.row.J.Denot g.row.T.Denot g.row.B.Denot g.row.O.Denot g.row.E.Denot in
     let old : List X = c.args.desks.items in
     let new : List X = c.serve_all.new.desks in
     let same : length new ≡ length old = search rules in

@@ -12,3 +12,6 @@ ghosts-serve_listening-B-Ledger g a = record { name = a.tickets.out.name; parts 
 
 abbrev pub ghosts-serve_listening-O-Ledger : goal.ghosts-serve_listening-O-Ledger
 ghosts-serve_listening-O-Ledger g a = record { name = a.tickets.overs.name; parts = a.tickets.overs.parts }
+
+abbrev pub ghosts-serve_listening-E-Ledger : goal.ghosts-serve_listening-E-Ledger
+ghosts-serve_listening-E-Ledger g a = record { name = a.tickets.entered.name; parts = a.tickets.entered.parts }

@@ -22,6 +22,6 @@ loop-seat-preserved g c =
       seats = all_front (λ (s : SeatView). s.posted ≡ 0) c.pop.new.self.items c.in-Some.seat seats;
       passes = all_front (λ (p : Tallies). p ≡ no_tallies) c.pop-in-Some.new.self.items c.unwrap-pass.result passes;
       fresh = rw c.push_reserved.ensures.items
-          (All-push (λ (d : Desk g.row.W.Denot g.row.J.Denot g.row.T.Denot g.row.B.Denot g.row.O.Denot). IsFreshDesk d.seat.posted d.pass) c.loop-seat.desks.items _ inv.fresh
+          (All-push (λ (d : Desk g.row.W.Denot g.row.J.Denot g.row.T.Denot g.row.B.Denot g.row.O.Denot g.row.E.Denot). IsFreshDesk d.seat.posted d.pass) c.loop-seat.desks.items _ inv.fresh
           (record { posted = seat; pass = pass }));
     }

@@ -4,7 +4,7 @@ use Rattle.graphjet.proofs.serving.serve_bare.Goals as goal
 
 pub returns-clause-does : goal.returns-clause-does
 returns-clause-does g c = λ a. let over = c.serve_over-end.ensures in record {
-  service = λ is. (c.serve_over-end.result.entered, service_as _ _ _ _ _ _ _ _ _ _ _ (λ h k. sym k) (λ h k. tt) (over.service is));
+  service = λ is. service_as _ _ _ _ _ _ _ _ _ _ (λ h k. sym k) (λ h k. tt) (over.service is);
   judged = (over.bare refl, λ e. (let rose = over.store e in absurd (omega (arith, rose))));
   kept = λ no yes. inl refl;
 }
