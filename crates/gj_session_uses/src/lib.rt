@@ -4,6 +4,8 @@
 #[cfg(test)]
 mod answer_tests;
 #[cfg(test)]
+mod form_tests;
+#[cfg(test)]
 mod served_tests;
 #[cfg(test)]
 mod waiting;
