@@ -1,5 +1,5 @@
 -- Numberings of the same vertices, and what is the same over edges that lie in another order.
-use Rattle.std.proofs.Common.{◌≡◌, ℕ, zero, suc, ◌+◌, ◌<◌, ◌≤◌, ◌∙◌, ◌++◌, ◌||◌, Bool, true, false, cond, nat_eq, List, [], ◌∷◌, length, fold, take, get_or, sum, sum_by, ap, sym, refl, arith}
+use Rattle.std.proofs.Common.{◌≡◌, ℕ, ◌+◌, ◌<◌, ◌≤◌, ◌∙◌, ◌++◌, ◌||◌, Bool, true, false, cond, nat_eq, List, [], ◌∷◌, length, fold, get_or, sum, sum_by, ap, sym, refl, arith}
 use Rattle.std.proofs.lemmas.Bool.Decides.{nat_tests}
 use mathlib.Core.Path.{fun_ext}
 use Rattle.gj_base.specs.declared.item.Item.{Item}
@@ -9,12 +9,12 @@ use Rattle.gj_base.proofs.TallyLemmas.{is_tally-with_number, number_at-with_numb
 use Rattle.gj_subgraph.specs.Masses.{stands_in, count_of, arrived, edges_of, half_step, posts_of, spread, starting, users_of, vertices, with_mass}
 use Rattle.gj_subgraph.specs.Numbers.{ArePlaced, units_in}
 use Rattle.gj_subgraph.specs.Regrouped.{AreRelaid, HaveSameEdges}
-use Rattle.gj_subgraph.proofs.CountLemmas.{Every, Covers, every_weaker, eqb_same, count_stands, stands_self, vertices_once, vertices_stand}
+use Rattle.gj_subgraph.proofs.CountLemmas.{Every, Covers, every_weaker, eqb_same, count_stands, stands_self, vertices_stand}
 use Rattle.gj_subgraph.proofs.LawLemmas.{arrived_sum}
 use Rattle.gj_subgraph.proofs.NumberLemmas.{Distinct, placed_push, stands_at, vertices_distinct, with_there}
 use Rattle.gj_subgraph.proofs.MassLemmas.{few_from, spread_none, spread_one, users_stand, vertices_same}
 use Rattle.gj_subgraph.proofs.StepLemmas.{arrived_none, find_at, head_absent, rest_distinct, units_at, units_none, units_sum}
-use Rattle.gj_subgraph.proofs.RegroupLemmas.{counted_stands, half_step_same, same_count, same_far_count, uncounted}
+use Rattle.gj_subgraph.proofs.RegroupLemmas.{half_step_same, same_count, same_far_count, uncounted}
 
 -- members by counts
 

@@ -1,4 +1,4 @@
-use Rattle.std.proofs.Common.{◌≡◌, ◌∙◌, ℕ, ap, sym, false, nat_eq, take, filter, get_or, refl}
+use Rattle.std.proofs.Common.{◌∙◌, ℕ, ap, sym, false, nat_eq, take, filter, get_or, refl}
 use Rattle.std.specs.HashSet.{contains}
 use Rattle.gj_base.specs.declared.side.Side.TheVariants.{Post}
 use Rattle.gj_subgraph.specs.Masses.{stands_in}

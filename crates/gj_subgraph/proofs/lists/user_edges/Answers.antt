@@ -1,4 +1,4 @@
-use Rattle.std.proofs.Common.{◌≡◌, ◌∙◌, ◌||◌, ℕ, ap, sym, nat_eq, take, get_or, rules, refl}
+use Rattle.std.proofs.Common.{◌∙◌, ◌||◌, ℕ, ap, sym, nat_eq, take, get_or, rules, refl}
 use Rattle.std.specs.HashSet.{contains}
 use Rattle.gj_base.specs.declared.side.Side.TheVariants.{User}
 use Rattle.gj_subgraph.specs.Masses.{stands_in}

@@ -1,10 +1,7 @@
-use Rattle.std.proofs.Common.{◌-◌, ◌*◌, ◌≤◌, ◌∙◌, ap, arith, length, fold, []}
-use Rattle.gj_base.specs.Tally.{sum_of}
+use Rattle.std.proofs.Common.{◌-◌, ◌*◌, ◌∙◌, ap, arith, length, fold, []}
 use Rattle.gj_subgraph.specs.Masses.{edges_of, users_of, posts_of, vertices, masses_of, with_mass, spread, starting}
 use Rattle.gj_subgraph.specs.Numbers.{units_in}
-use Rattle.gj_subgraph.proofs.LawLemmas.{total_law}
-use Rattle.gj_subgraph.proofs.MassLemmas.{few_users, same_edges}
-use Rattle.gj_subgraph.proofs.SumLemmas.{masses_sum, masses_within}
+use Rattle.gj_subgraph.proofs.MassLemmas.{few_users}
 use Rattle.gj_subgraph.proofs.masses.by_scan.Goals as goal
 
 pub units_of-requires-clause-few : goal.units_of-requires-clause-few

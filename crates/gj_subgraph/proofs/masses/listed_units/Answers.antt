@@ -1,12 +1,8 @@
-use Rattle.std.proofs.Common.{◌≡◌, ◌-◌, ◌*◌, ◌∙◌, ℕ, nat_eq, ap, sym, arith}
+use Rattle.std.proofs.Common.{◌-◌, ◌*◌, ◌∙◌, nat_eq, arith}
 use Rattle.std.specs.HashSet.{contains}
-use Rattle.gj_subgraph.specs.Masses.{edges_of, users_of, posts_of, half_step, spread, starting}
-use Rattle.gj_subgraph.specs.Numbers.{units_in}
-use Rattle.gj_subgraph.specs.Regrouped.{HaveSameEdges}
+use Rattle.gj_subgraph.specs.Masses.{edges_of, users_of, posts_of}
 use Rattle.gj_subgraph.proofs.ListLemmas.{post_edges_same}
-use Rattle.gj_subgraph.proofs.MassLemmas.{spread_one, spread_none}
-use Rattle.gj_subgraph.proofs.RegroupLemmas.{half_step_same}
-use Rattle.gj_subgraph.proofs.RelaidLemmas.{names_distinct, one_step, same_start}
+use Rattle.gj_subgraph.proofs.RelaidLemmas.{names_distinct, one_step}
 use Rattle.gj_subgraph.proofs.masses.listed_units.Goals as goal
 
 pub returns-then-iterations-eq1-clause-exact : goal.returns-then-iterations-eq1-clause-exact

@@ -1,9 +1,8 @@
-use Rattle.std.proofs.Common.{◌-◌, ◌*◌, ◌≤◌, ◌∙◌, ap, arith, length, fold, []}
+use Rattle.std.proofs.Common.{◌≤◌, ◌∙◌, ap, arith}
 use Rattle.gj_base.specs.Tally.{sum_of}
-use Rattle.gj_subgraph.specs.Masses.{edges_of, users_of, posts_of, vertices, masses_of, with_mass, spread, starting}
-use Rattle.gj_subgraph.specs.Numbers.{units_in}
+use Rattle.gj_subgraph.specs.Masses.{edges_of, users_of, posts_of, masses_of}
 use Rattle.gj_subgraph.proofs.LawLemmas.{total_law}
-use Rattle.gj_subgraph.proofs.MassLemmas.{few_users, same_edges}
+use Rattle.gj_subgraph.proofs.MassLemmas.{same_edges}
 use Rattle.gj_subgraph.proofs.SumLemmas.{masses_sum, masses_within}
 use Rattle.gj_subgraph.proofs.masses.subgraph.Goals as goal
 

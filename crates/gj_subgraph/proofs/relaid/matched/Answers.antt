@@ -1,6 +1,6 @@
-use Rattle.std.proofs.Common.{◌≡◌, ◌<◌, ◌≤◌, take, get_or, length}
+use Rattle.std.proofs.Common.{◌<◌, ◌≤◌, take, get_or, length}
 use Rattle.std.proofs.lemmas.List.{take_more}
-use Rattle.gj_subgraph.specs.Numbers.{AreNumbers, ArePlaced}
+use Rattle.gj_subgraph.specs.Numbers.{AreNumbers}
 use Rattle.gj_subgraph.proofs.NumberLemmas.{take_whole}
 use Rattle.gj_subgraph.proofs.RelaidLemmas.{placed_next, placed_none}
 use Rattle.gj_subgraph.proofs.relaid.matched.Goals as goal

@@ -1,4 +1,4 @@
-use Rattle.std.proofs.Common.{◌≡◌, ◌∙◌, ap, sym, arith, sum, length}
+use Rattle.std.proofs.Common.{◌∙◌, ap, sym, arith, sum, length}
 use Rattle.gj_subgraph.specs.Masses.{half_step}
 use Rattle.gj_subgraph.specs.Numbers.{units_in}
 use Rattle.gj_subgraph.proofs.RegroupLemmas.{half_step_same}

@@ -1,7 +1,6 @@
-use Rattle.std.proofs.Common.{◌≡◌, ◌∙◌, ap, sym, fold, take, get_or, []}
+use Rattle.std.proofs.Common.{◌∙◌, ap, sym, fold, get_or, []}
 use Rattle.std.proofs.lemmas.List.Sums.{fold_more}
 use Rattle.gj_subgraph.specs.Masses.{with_vertex, vertices}
-use Rattle.gj_subgraph.specs.Numbers.{AreNumbers}
 use Rattle.gj_subgraph.proofs.NumberLemmas.{take_whole}
 use Rattle.gj_subgraph.proofs.relaid.numbers_of.Goals as goal
 
