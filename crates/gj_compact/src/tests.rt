@@ -3,8 +3,9 @@
 ghost use Rattle.std.specs.Prelude.{◌<◌};
 
 use crate::CompactSegment;
-use gj_base::{Item, Kind, Mask, SegmentView, Side, count_in, end_in};
+use gj_base::{Item, Kind, Mask, Memory, SegmentView, Side, count_in, end_in};
 use gj_segment::PoolSegment;
+use std::alloc::Global;
 use std::process::Abort;
 use std::test::Fail;
 
@@ -168,50 +169,79 @@ fn the_replies_of_65536_edges_are_found_one_by_one(rt: HostRuntime) -> Result<()
     Ok(())
 }
 
-fn bounds_of(rt: &impl Abort, compact: &CompactSegment, block: u32) -> (u64, u64) {
+/// The block of user 1's edges has these least and greatest moments.
+fn has_bounds(rt: &impl Abort, compact: &CompactSegment, block: u32, least: u64, greatest: u64) {
     assert!(rt; compact.vertices(Side::User) > 0);
     assert!(rt; block < 1024);
     assert!(rt; 64 * block < compact.degree(Side::User, 0));
-    compact.block_moments(Side::User, 0, block)
+    let bounds = compact.block_moments(Side::User, 0, block);
+    assert_eq!(rt; bounds, (least, greatest), "block {block}");
+}
+
+/// The moment of the edge `i`: they rise, fall and stand still.
+fn moment_of(i: u64) -> u64
+    requires { i < 300 }
+{
+    if i < 100 {
+        i
+    } else if i < 200 {
+        200 - i
+    } else {
+        150
+    }
+}
+
+/// User 1's edges to the posts 0 to 299.
+fn dated(rt: &impl Abort, alloc: Global) -> Result<CompactSegment, Memory> {
+    let mut pool = PoolSegment::new(alloc, 300)?;
+    let mut compact = CompactSegment::new(alloc, 300)?;
+    for i in 0..300 {
+        add(rt, &mut pool, 1, i, Kind::Click, moment_of(i));
+    }
+    assert!(rt; pool.len() < 301);
+    compact.fill_from(&pool);
+    Ok(compact)
+}
+
+/// So many edges of user 1 are from the moment on.
+fn counts_from(rt: &impl Abort, compact: &CompactSegment, moment: u64, eligible: u32)
+    requires { moment < 300 }
+{
+    let mask = Mask::all().from_moment(moment);
+    assert_eq!(rt; count_in(compact, Side::User, 1, mask), eligible);
+}
+
+/// The edge of user 1 with this index among those from the moment on leads to the post.
+fn leads_from(rt: &impl Abort, compact: &CompactSegment, moment: u64, i: u32, post: u64)
+    requires { moment < 300 }
+{
+    let mask = Mask::all().from_moment(moment);
+    assert_eq!(rt; end_at(rt, compact, Side::User, 1, mask, i), post);
 }
 
 #[test]
 fn a_block_has_the_moments_of_its_64_edges(rt: HostRuntime) -> Result<(), Fail> {
-    let mut pool = PoolSegment::new(rt.alloc(), 300)?;
-    let mut compact = CompactSegment::new(rt.alloc(), 300)?;
-    for i in 0..300 {
-        let at = if i < 100 {
-            i
-        } else if i < 200 {
-            200 - i
-        } else {
-            150
-        };
-        add(&rt, &mut pool, 1, i, Kind::Click, at);
-    }
-    assert!(rt; pool.len() < 301);
-    compact.fill_from(&pool);
-    for (block, bounds) in [
-        (0, (0, 63)),
-        (1, (64, 100)),
-        (2, (9, 72)),
-        (3, (1, 150)),
-        (4, (150, 150)),
-    ] {
-        assert_eq!(rt; bounds_of(&rt, &compact, block), bounds, "block {block}");
-    }
-    for (moment, eligible) in [
-        (0, 300),
-        (1, 299),
-        (100, 101),
-        (101, 100),
-        (150, 100),
-        (151, 0),
-    ] {
-        assert_eq!(rt;
-            count_in(&compact, Side::User, 1, Mask::all().from_moment(moment)),
-            eligible
-        );
-    }
+    let compact = dated(&rt, rt.alloc())?;
+    has_bounds(&rt, &compact, 0, 0, 63);
+    has_bounds(&rt, &compact, 1, 64, 100);
+    has_bounds(&rt, &compact, 2, 9, 72);
+    has_bounds(&rt, &compact, 3, 1, 150);
+    has_bounds(&rt, &compact, 4, 150, 150);
+    Ok(())
+}
+
+#[test]
+fn edges_before_a_least_moment_are_passed_over(rt: HostRuntime) -> Result<(), Fail> {
+    let compact = dated(&rt, rt.alloc())?;
+    counts_from(&rt, &compact, 0, 300);
+    counts_from(&rt, &compact, 1, 299);
+    counts_from(&rt, &compact, 100, 101);
+    counts_from(&rt, &compact, 101, 100);
+    counts_from(&rt, &compact, 150, 100);
+    counts_from(&rt, &compact, 151, 0);
+    leads_from(&rt, &compact, 100, 0, 100);
+    leads_from(&rt, &compact, 100, 1, 200);
+    leads_from(&rt, &compact, 100, 57, 256);
+    leads_from(&rt, &compact, 150, 99, 299);
     Ok(())
 }
