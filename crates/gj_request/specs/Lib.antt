@@ -1,3 +1,5 @@
+pub mod AreWeighted
+pub mod Counts
 pub mod Forms
 pub mod Names
 pub mod Plain

@@ -4,14 +4,17 @@
 //! it is. `read_request` takes memory; the names take none.
 #![tactic(auto)]
 
+mod count;
 mod fields;
 mod forms;
 mod items;
+mod least;
 mod name;
 mod path;
 mod plain;
 mod refusal;
 mod request;
+mod seeds;
 
 pub use name::Name;
 pub use refusal::{Reason, Refusal};
