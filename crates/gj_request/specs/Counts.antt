@@ -1,9 +1,9 @@
 -- The fields of a count: seed users with their weights, and the least support that a post has to have. Own.
-use Rattle.std.specs.Prelude.{ℕ, ◌++◌, ◌==◌, not, Bool, List, [], ◌∷◌, Option, Some, None, is_some, Result, Ok, Err}
+use Rattle.std.specs.Prelude.{◌≡◌, ℕ, ◌++◌, ◌==◌, not, Bool, IsTrue, List, [], ◌∷◌, length, Option, Some, None, is_some, Result, Ok, Err}
 use Rattle.std.specs.List.{list_any}
 use Rattle.serde_json.specs.Data.{Data}
 use Rattle.serde_json.specs.Find.{get}
-use Rattle.gj_base.specs.Asks.{Least}
+use Rattle.gj_base.specs.Asks.{Least, AreSeeds, are_weights}
 use Rattle.gj_base.specs.Kinds.{kind_name, all_kinds}
 use Rattle.gj_base.specs.declared.kind.Kind.{Kind}
 use Rattle.gj_base.specs.declared.kind.Kind.TheVariants.{Click, Favorite, Retweet, Reply, Tweet}
@@ -37,6 +37,12 @@ unfoldable pub seeds_of : Name → Data → Result WeightedSeeds Reason
 seeds_of name value = do
   list ← array_of 1000 name value
   each (add_seed name) no_seeds list
+
+-- seed users, each with its weight
+pub record AreWeighted (seeds : WeightedSeeds) : Type 0 where
+  pub users : AreSeeds seeds.users
+  pub as_many : length seeds.weights ≡ length seeds.users
+  pub weights : IsTrue (are_weights seeds.weights)
 
 abbrev pub seeds : Form
 seeds = record { shape = some_seeds; reading = seeds_of }

@@ -1,4 +1,3 @@
-pub mod AreWeighted
 pub mod Counts
 pub mod Forms
 pub mod Names

@@ -21,4 +21,6 @@ pub use refusal::{Reason, Refusal};
 pub use request::read_request;
 
 #[cfg(test)]
+mod count_tests;
+#[cfg(test)]
 mod tests;

@@ -2,9 +2,8 @@
 ghost use Rattle.std.specs.Prelude.{◌≡◌, ◌+◌, ◌≤◌, IsTrue, IfOk, IfErr, OnOk, Ok, length};
 ghost use Rattle.serde_json.specs.View.{view, items_view};
 ghost use Rattle.gj_base.specs.Asks.{are_distinct, are_ids, are_weights};
-ghost use Rattle.gj_request.specs.AreWeighted.{AreWeighted};
 ghost use Rattle.gj_request.specs.Counts as counts;
-ghost use Rattle.gj_request.specs.Counts.{seed_of, add_seed, no_seeds, seeds_of};
+ghost use Rattle.gj_request.specs.Counts.{seed_of, add_seed, no_seeds, seeds_of, AreWeighted};
 ghost use Rattle.gj_request.specs.Forms.{each};
 ghost use Rattle.gj_request.specs.Results.{Refuses, Gives};
 ghost use Rattle.gj_request.specs.SeenIds.{HasThese};
