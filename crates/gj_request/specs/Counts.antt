@@ -1,5 +1,5 @@
 -- The fields of a count: seed users with their weights, and the least support that a post has to have. Own.
-use Rattle.std.specs.Prelude.{◌≡◌, ℕ, ◌++◌, ◌==◌, not, Bool, IsTrue, List, [], ◌∷◌, length, Option, Some, None, is_some, Result, Ok, Err}
+use Rattle.std.specs.Prelude.{◌≡◌, ℕ, ◌++◌, ◌==◌, not, Bool, IsTrue, List, [], ◌∷◌, length, Option, Some, None, is_some, Result, Ok}
 use Rattle.std.specs.List.{list_any}
 use Rattle.serde_json.specs.Data.{Data}
 use Rattle.serde_json.specs.Find.{get}

@@ -24,6 +24,7 @@ const COUNT: [Name; 7] = [
     Name::NotBefore,
 ];
 
+/// The count that a body asks for. Takes memory for the lists of the ask.
 #[tactic(auto, unfolding(crate::specs::Requests::count_of))]
 pub fn read_count(alloc: Global, tree: &Value) -> Result<Ask, Refusal>
     ensures exact { Gives (count_of (view tree.now)) result }
