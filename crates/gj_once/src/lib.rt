@@ -1,0 +1,11 @@
+//! A producer's numbered batch acts once.
+//!
+//! Contracts see a `Once` as a list of what was noted last of each producer. `Once::new` takes all its memory, and
+//! `post_all` that of its answers; posts take what the index takes.
+#![tactic(auto)]
+
+mod once;
+mod verdict;
+
+pub use once::Once;
+pub use verdict::{LastBatch, Verdict};
