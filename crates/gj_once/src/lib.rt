@@ -4,8 +4,10 @@
 //! `post_all` that of its answers; posts take what the index takes.
 #![tactic(auto)]
 
+mod noted_index;
 mod once;
 mod verdict;
 
+pub use noted_index::{Noted, NotedIndex, OnceError};
 pub use once::Once;
 pub use verdict::{LastBatch, Verdict};
