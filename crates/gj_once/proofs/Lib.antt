@@ -1,1 +1,2 @@
 pub mod JudgingLemmas
+pub mod WithinLemmas

@@ -6,8 +6,10 @@
 
 mod noted_index;
 mod once;
+mod once_index;
 mod verdict;
 
 pub use noted_index::{Noted, NotedIndex, OnceError};
 pub use once::Once;
+pub use once_index::OnceIndex;
 pub use verdict::{LastBatch, Verdict};

@@ -31,7 +31,7 @@ pub trait NotedIndex: Index {
     ghost use Rattle.gj_base.specs.declared.index.IndexError.TheVariants.{Full, Store};
     ghost use Rattle.gj_base.specs.Asks.{IsNotedBatch};
     ghost use Rattle.gj_base.specs.Causes.{faults_posted};
-    ghost use Rattle.gj_base.specs.History.{conf_of, end_of, extend, entries_by, more};
+    ghost use Rattle.gj_base.specs.History.{conf_of, end_of, extend, entries_by, length_of, more};
     ghost use Rattle.gj_once.specs.declared.noted_index.OnceError.TheVariants as refused;
     ghost use Rattle.gj_once.specs.declared.verdict.LastBatch.{LastBatch};
     ghost use Rattle.gj_once.specs.declared.verdict.Verdict.TheVariants.{Fresh};
@@ -88,6 +88,7 @@ pub trait NotedIndex: Index {
         ensures stays { OnOther result (Self.viewed self.new ≡ Self.viewed self.old) }
         ensures others { OnOther result (noted self.new ≡ noted self.old) };
 
-    // What is noted ends in the history: the view ends where each history does that is kept.
     ghost within: { (x : Self) (producer : ℕ) → (last_of (noted x) producer).receipt.to ≤ end_of (Self.viewed x) };
+
+    ghost within_kept: { (x : Self) (h : History) (producer : ℕ) → Self.keeps x h → (last_of (noted x) producer).receipt.to ≤ length_of h };
 }
