@@ -1,2 +1,4 @@
 pub mod JudgingLemmas
 pub mod WithinLemmas
+pub mod PostLemmas
+pub mod PostingLemmas

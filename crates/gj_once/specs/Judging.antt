@@ -1,5 +1,5 @@
 -- Which batches of a producer are new. Own: numbers count from 1, and none is left out.
-use Rattle.std.specs.Prelude.{ℕ, ◌≡◌, ◌+◌, ◌-◌, List, slice_index_or, slice_set, ◌==◌, nat_lt, if◌then◌else◌}
+use Rattle.std.specs.Prelude.{ℕ, ◌+◌, ◌-◌, List, replicate, slice_index_or, slice_set, ◌==◌, nat_lt, if◌then◌else◌}
 use Rattle.gj_base.specs.declared.item.Receipt.{Receipt}
 use Rattle.gj_once.specs.declared.verdict.LastBatch.{LastBatch}
 use Rattle.gj_once.specs.declared.verdict.Verdict.{Verdict}
@@ -14,8 +14,8 @@ abbrev pub last_of : List LastBatch → ℕ → LastBatch
 last_of lasts producer = slice_index_or lasts (producer - 1) no_batch
 
 -- no batch is noted of any producer
-abbrev pub NothingNoted : List LastBatch → Type 0
-NothingNoted lasts = (producer : ℕ) → last_of lasts producer ≡ no_batch
+unfoldable pub nothing_noted : List LastBatch
+nothing_noted = replicate 1024 no_batch
 
 -- what a number says of its producer's batch
 unfoldable pub judged : List LastBatch → ℕ → ℕ → Verdict

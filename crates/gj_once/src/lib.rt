@@ -7,9 +7,11 @@
 mod noted_index;
 mod once;
 mod once_index;
+mod posting;
 mod verdict;
 
 pub use noted_index::{Noted, NotedIndex, OnceError};
 pub use once::Once;
 pub use once_index::OnceIndex;
+pub use posting::{Answer, Call, post_all};
 pub use verdict::{LastBatch, Verdict};

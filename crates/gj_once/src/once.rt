@@ -1,7 +1,7 @@
 //! The last batch of each producer.
 ghost use Rattle.std.specs.Prelude.{◌≡◌, ◌≢◌, ◌<◌, ◌≤◌, ◌↔◌, ◌+◌, ℕ, IfOk};
 ghost use Rattle.gj_base.specs.declared.item.Receipt.{Receipt};
-ghost use Rattle.gj_once.specs.Judging.{NothingNoted, judged, last_of, noting};
+ghost use Rattle.gj_once.specs.Judging.{judged, last_of, no_batch, nothing_noted, noting};
 
 use crate::verdict::{LastBatch, Verdict};
 use gj_base::{MAX_PRODUCER, Memory, Receipt};
@@ -34,7 +34,8 @@ impl Model for Once {
 impl Once {
     /// Nothing is noted. It takes all memory that it will use.
     pub fn new(alloc: Global) -> Result<Once, Memory>
-        ensures { IfOk result (λ once. NothingNoted once) }
+        ensures exact { IfOk result (λ once. once ≡ nothing_noted) }
+        ensures each { IfOk result (λ once. (producer : ℕ) → last_of once producer ≡ no_batch) }
     {
         match vec![in alloc; NO_BATCH; MAX_PRODUCER as usize] {
             Ok(lasts) => Ok(Once { lasts }),
