@@ -81,9 +81,9 @@ pub record Holds (h : History) (receipt : Receipt) (items : List Item) : Type 0 
   pub to : receipt.to ≡ receipt.from + length items
   pub there : slice_range (items_of h.entries) (receipt.from - h.first) (receipt.to - h.first) ≡ items
 
--- the post at this index brought the batch into the history, at these places
-abbrev pub EntersAt : List Post → ℕ → NotedBatch → Receipt → Type 0
-EntersAt posts i batch receipt = slice_get posts i ≡ Some (record { call = asked.Noted batch; answer = Ok (New receipt) })
+-- the post at this index brought the items of its call into the history, at these places
+abbrev pub EntersAt : List Post → ℕ → Call → Receipt → Type 0
+EntersAt posts i call receipt = slice_get posts i ≡ Some (record { call = call; answer = Ok (New receipt) })
 
 -- the post at this index was answered that the batch had entered before, at these places
 abbrev pub RepeatsAt : List Post → ℕ → NotedBatch → Receipt → Type 0
@@ -94,13 +94,13 @@ pub record EnteredBefore (posts : List Post) (i producer number : ℕ) (receipt 
   pub index : ℕ
   pub batch : NotedBatch
   pub earlier : index < i
-  pub enters : EntersAt posts index batch receipt
+  pub enters : EntersAt posts index (asked.Noted batch) receipt
   pub producer_is : batch.producer ≡ producer
   pub number_is : batch.number ≡ number
 
 -- the posts take each numbered batch once: of each producer and number at most one entered, a repeated one has the places
 -- of the one that entered, and the history holds at its places what entered
 pub record OnceOnly (posts : List Post) (h : History) : Type 0 where
-  pub one : (i j : ℕ) (a b : NotedBatch) (q r : Receipt) → EntersAt posts i a q → EntersAt posts j b r → a.producer ≡ b.producer → a.number ≡ b.number → i ≡ j
+  pub one : (i j : ℕ) (a b : NotedBatch) (q r : Receipt) → EntersAt posts i (asked.Noted a) q → EntersAt posts j (asked.Noted b) r → a.producer ≡ b.producer → a.number ≡ b.number → i ≡ j
   pub repeated : (i : ℕ) (b : NotedBatch) (r : Receipt) → RepeatsAt posts i b r → EnteredBefore posts i b.producer b.number r
-  pub held : (i : ℕ) (b : NotedBatch) (r : Receipt) → EntersAt posts i b r → Holds h r b.items
+  pub held : (i : ℕ) (call : Call) (r : Receipt) → EntersAt posts i call r → Holds h r (items_in call)

@@ -1,6 +1,11 @@
-use Rattle.std.proofs.Common.{◌≡◌, ◌+◌, ◌++◌, ◌<◌, ◌≤◌, List, [], ◌∷◌, Result, refl, length-append, length, vec_capacity, Some, slice_get, sym, subst, ap, ◌∙◌, arith}
+use Rattle.std.proofs.Common.{ℕ, ◌≡◌, ◌+◌, ◌++◌, ◌<◌, ◌≤◌, List, [], ◌∷◌, Result, refl, length-append, length, vec_capacity, Some, slice_get, sym, subst, ap, ◌∙◌, arith}
 use Rattle.std.proofs.lemmas.Option.{slice_get_read}
-use Rattle.gj_base.specs.History.{end_of}
+use Rattle.gj_base.specs.History.{end_of, length_of}
+use Rattle.gj_base.proofs.Windows.{stands_end}
+use Rattle.gj_once.specs.declared.verdict.LastBatch.{LastBatch}
+use Rattle.gj_once.specs.Judging.{nothing_noted}
+use Rattle.gj_once.specs.PostLists.{AreAnswers, posts_of}
+use Rattle.gj_once.proofs.OnceLemmas.{once_only}
 use Rattle.gj_once.specs.declared.noted_index.Noted.{Noted}
 use Rattle.gj_once.specs.declared.noted_index.OnceError.{OnceError}
 use Rattle.gj_once.proofs.PostingLemmas.{Posted, posted_none, posted_more}
@@ -31,3 +36,11 @@ loop-call-preserved g c = record {
       c.call-item.result c.post_one-answer.result c.put.new.answers.items c.loop-call.invariant.posted c.put.ensures.items at
       c.post_one-answer.ensures.exact c.post_one-answer.ensures.noted c.post_one-answer.ensures.end c.post_one-answer.ensures.keeps;
 }
+
+pub returns-clause-once : goal.returns-clause-once
+returns-clause-once g c h seat nothing kept =
+    let P : List LastBatch → ℕ → Type 0 = λ lasts before. AreAnswers lasts before (posts_of c.args.calls.now c.loop-call.answers.items) in
+    let ends : end_of (g.N.Index.viewed c.args.index.now) ≡ length_of h =
+      stands_end (g.N.Index.viewed c.args.index.now) h (g.met.N.Index.is_window c.args.index.now).configuration.segments_low (g.met.N.Index.stands c.args.index.now h kept) in
+    once_only (posts_of c.args.calls.now c.loop-call.answers.items) h seat
+      (subst (λ (n : ℕ). P nothing_noted n) ends (subst (λ (l : List LastBatch). P l (end_of (g.N.Index.viewed c.args.index.now))) nothing c.loop-call.invariant.posted.exact))
