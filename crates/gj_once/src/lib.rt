@@ -8,6 +8,10 @@ mod noted_index;
 mod once;
 mod once_index;
 mod posting;
+#[cfg(test)]
+mod shaky;
+#[cfg(test)]
+mod tests;
 mod verdict;
 
 pub use noted_index::{Noted, NotedIndex, OnceError};
