@@ -1,5 +1,5 @@
 -- A list of posts, made where nothing was noted, takes each numbered batch once.
-use Rattle.std.proofs.Common.{◌≡◌, ◌≢◌, ◌+◌, ◌-◌, ◌<◌, ◌≤◌, ◌⊎◌, inl, inr, ℕ, zero, suc, List, [], ◌∷◌, ◌++◌, length, map, take, drop, set, get_or, slice_get, slice_range, Some, None, refl, ap, sym, subst, ◌∙◌, arith, Result, Ok, Err, length-append, length-set, get_or-set_other, get_or-set_same, append-nil, true, false, cond, eqb, ltb}
+use Rattle.std.proofs.Common.{◌≡◌, ◌≢◌, ◌+◌, ◌-◌, ◌<◌, ◌≤◌, ◌⊎◌, inl, inr, ℕ, zero, suc, List, [], ◌∷◌, ◌++◌, length, take, drop, slice_get, Some, refl, ap, sym, subst, ◌∙◌, arith, Result, Ok, Err, length-set, get_or-set_other, get_or-set_same}
 use Rattle.std.proofs.lemmas.Bool.Decides.{eqb_tells, nat_tests}
 use Rattle.std.proofs.lemmas.List.{map-append, length-map}
 use Rattle.std.proofs.Math.Seq.{drop-append-add, take-append_seam}
@@ -7,7 +7,6 @@ use Rattle.gj_base.proofs.Windows.{items_back}
 use Rattle.gj_base.specs.Asks.{NotedBatch, IsNotedBatch}
 use Rattle.gj_base.specs.History.{entries_by, extend, items_of, length_of}
 use Rattle.gj_base.specs.declared.history.History.{History}
-use Rattle.gj_base.specs.declared.item.Entry.{Entry}
 use Rattle.gj_base.specs.declared.item.Item.{Item}
 use Rattle.gj_base.specs.declared.item.Receipt.{Receipt}
 use Rattle.gj_once.specs.declared.noted_index.Noted.{Noted}
@@ -75,15 +74,16 @@ noted_later : (lasts : List LastBatch) (before producer : ℕ) (call : Call) (an
 noted_later lasts before producer (asked.Plain items) answer long low is = omega arith
 noted_later lasts before producer (asked.Noted batch) (Ok (New r)) long low is =
     elim (eqb_tells producer batch.producer) [
-      inl same ↦
-        let next : batch.number ≡ (last_of lasts batch.producer).number + 1 = fresh_number lasts batch.producer batch.number (new_verdict _ r is.1) in
-        let P : ℕ → Type 0 = λ p. (last_of lasts p).number ≤ (last_of (noting lasts batch.producer batch.number r) p).number in
-        let now = ap (λ (last : LastBatch). last.number) (noted_same lasts batch.producer batch.number r long is.0.producer_low is.0.producer_high) in
-        let here : P batch.producer = omega arith in
-        subst P (sym same.1) here
-    | inr apart ↦
-        let e = ap (λ (last : LastBatch). last.number) (noted_other lasts batch.producer producer batch.number r is.0.producer_low low apart.1) in
-        omega arith ]
+      | inl same ↦
+          let next : batch.number ≡ (last_of lasts batch.producer).number + 1 = fresh_number lasts batch.producer batch.number (new_verdict _ r is.1) in
+          let P : ℕ → Type 0 = λ p. (last_of lasts p).number ≤ (last_of (noting lasts batch.producer batch.number r) p).number in
+          let now = ap (λ (last : LastBatch). last.number) (noted_same lasts batch.producer batch.number r long is.0.producer_low is.0.producer_high) in
+          let here : P batch.producer = omega arith in
+          subst P (sym same.1) here
+      | inr apart ↦
+          let e = ap (λ (last : LastBatch). last.number) (noted_other lasts batch.producer producer batch.number r is.0.producer_low low apart.1) in
+          omega arith
+    ]
 noted_later lasts before producer (asked.Noted batch) (Ok (Repeated r)) long low is = omega arith
 noted_later lasts before producer (asked.Noted batch) (Err why) long low is = omega arith
 
@@ -115,7 +115,7 @@ above lasts before producer (post ∷ posts) zero b r long low are at its =
 above lasts before producer (post ∷ posts) (suc i) b r long low are at its =
     let more = noted_later lasts before producer post.call post.answer long low are.0 in
     let rest : (last_of (noted_by lasts post.call post.answer) producer).number < b.number =
-      above (noted_by lasts post.call post.answer) _ producer posts i b r (noted_length lasts post.call post.answer long) low are.1 at its in
+    above (noted_by lasts post.call post.answer) _ producer posts i b r (noted_length lasts post.call post.answer long) low are.1 at its in
     omega arith
 
 -- what follows a batch that entered has a higher number
@@ -125,10 +125,10 @@ above_head lasts before post posts j a b q r long are first at its =
     let same = head_is post posts (asked.Noted a) (Ok (New q)) first in
     let is = head_answer lasts before post (asked.Noted a) (Ok (New q)) same are.0 in
     let e : last_of (noted_by lasts post.call post.answer) a.producer ≡ record { number = a.number; receipt = q } =
-      ap (λ l. last_of l a.producer) (head_noted lasts post (asked.Noted a) (Ok (New q)) same) ∙ noted_same lasts a.producer a.number q long is.0.producer_low is.0.producer_high in
+    ap (λ l. last_of l a.producer) (head_noted lasts post (asked.Noted a) (Ok (New q)) same) ∙ noted_same lasts a.producer a.number q long is.0.producer_low is.0.producer_high in
     let n = ap (λ (last : LastBatch). last.number) e in
     let h : (last_of (noted_by lasts post.call post.answer) a.producer).number < b.number =
-      above (noted_by lasts post.call post.answer) _ a.producer posts j b r (noted_length lasts post.call post.answer long) is.0.producer_low are.1 at (sym its) in
+    above (noted_by lasts post.call post.answer) _ a.producer posts j b r (noted_length lasts post.call post.answer long) is.0.producer_low are.1 at (sym its) in
     omega arith
 
 -- of each producer and number at most one batch enters
@@ -163,21 +163,22 @@ noted_head : (lasts : List LastBatch) (before : ℕ) (call : Call) (answer : Res
 noted_head lasts before (asked.Plain items) answer posts i producer number r long low is e = inl e
 noted_head lasts before (asked.Noted batch) (Ok (New q)) posts i producer number r long low is e =
     elim (eqb_tells producer batch.producer) [
-      inl same ↦
-        let its : last_of (noting lasts batch.producer batch.number q) producer ≡ record { number = batch.number; receipt = q } =
+      | inl same ↦
+          let its : last_of (noting lasts batch.producer batch.number q) producer ≡ record { number = batch.number; receipt = q } =
           ap (λ p. last_of (noting lasts batch.producer batch.number q) p) same.1 ∙ noted_same lasts batch.producer batch.number q long is.0.producer_low is.0.producer_high in
-        let last : LastBatch = record { number = batch.number; receipt = q } in
-        let given : LastBatch = record { number = number; receipt = r } in
-        let both : last ≡ given = sym its ∙ e in
-        inr (record {
-          index = 0;
-          batch = batch;
-          earlier = omega arith;
-          enters = ap (λ (l : LastBatch). let post : Post = record { call = asked.Noted batch; answer = Ok (New l.receipt) } in Some post) both;
-          producer_is = sym same.1;
-          number_is = ap (λ (l : LastBatch). l.number) both;
-        })
-    | inr apart ↦ inl (sym (noted_other lasts batch.producer producer batch.number q is.0.producer_low low apart.1) ∙ e) ]
+          let last : LastBatch = record { number = batch.number; receipt = q } in
+          let given : LastBatch = record { number = number; receipt = r } in
+          let both : last ≡ given = sym its ∙ e in
+          inr (record {
+            index = 0;
+            batch = batch;
+            earlier = omega arith;
+            enters = ap (λ (l : LastBatch). let post : Post = record { call = asked.Noted batch; answer = Ok (New l.receipt) } in Some post) both;
+            producer_is = sym same.1;
+            number_is = ap (λ (l : LastBatch). l.number) both;
+          })
+      | inr apart ↦ inl (sym (noted_other lasts batch.producer producer batch.number q is.0.producer_low low apart.1) ∙ e)
+    ]
 noted_head lasts before (asked.Noted batch) (Ok (Repeated q)) posts i producer number r long low is e = inl e
 noted_head lasts before (asked.Noted batch) (Err why) posts i producer number r long low is e = inl e
 
@@ -191,8 +192,9 @@ repeats lasts before (post ∷ posts) zero b r long are at =
 repeats lasts before (post ∷ posts) (suc i) b r long are at =
     let rest = repeats (noted_by lasts post.call post.answer) _ posts i b r (noted_length lasts post.call post.answer long) are.1 at in
     elim rest.1 as (λ _. IsNotedBatch b × ((last_of lasts b.producer ≡ record { number = b.number; receipt = r }) ⊎ EnteredBefore (post ∷ posts) (suc i) b.producer b.number r)) [
-      inl noted ↦ (rest.0, noted_head lasts before post.call post.answer posts i b.producer b.number r long rest.0.producer_low are.0 noted)
-    | inr earlier ↦ (rest.0, inr (later_place post posts i b.producer b.number r earlier)) ]
+      | inl noted ↦ (rest.0, noted_head lasts before post.call post.answer posts i b.producer b.number r long rest.0.producer_low are.0 noted)
+      | inr earlier ↦ (rest.0, inr (later_place post posts i b.producer b.number r earlier))
+    ]
 
 -- the places that a call took
 takes : (lasts : List LastBatch) (before : ℕ) (call : Call) (r : Receipt) → IsAnswer lasts before call (Ok (New r)) → Takes before (items_in call) r
@@ -228,7 +230,7 @@ stands_among lasts before (post ∷ posts) (suc i) call r are at =
     let low : before + length first ≤ r.from = rest.from in
     let places : r.from - before ≡ length first + (r.from - (before + length first)) = omega arith in
     let past : drop (r.from - before) (first ++ entered posts) ≡ drop (r.from - (before + length first)) (entered posts) =
-      ap (λ n. drop n (first ++ entered posts)) places ∙ drop-append-add first (entered posts) (r.from - (before + length first)) in
+    ap (λ n. drop n (first ++ entered posts)) places ∙ drop-append-add first (entered posts) (r.from - (before + length first)) in
     record {
       from = omega arith;
       to = rest.to;
@@ -247,7 +249,7 @@ holds h seat all r items among =
     let places : r.from - h.first ≡ length (items_of h.entries) + (r.from - (h.first + length h.entries)) = omega arith in
     let count : (r.to - h.first) - (r.from - h.first) ≡ length items = omega arith in
     let past : drop (r.from - h.first) (items_of (extend h (entries_by seat all)).entries) ≡ drop (r.from - (h.first + length h.entries)) all =
-      ap (λ xs. drop (r.from - h.first) xs) (items_longer h seat all) ∙ (ap (λ n. drop n (items_of h.entries ++ all)) places ∙ drop-append-add (items_of h.entries) all (r.from - (h.first + length h.entries))) in
+    ap (λ xs. drop (r.from - h.first) xs) (items_longer h seat all) ∙ (ap (λ n. drop n (items_of h.entries ++ all)) places ∙ drop-append-add (items_of h.entries) all (r.from - (h.first + length h.entries))) in
     record {
       from = omega arith;
       to = end;
@@ -258,13 +260,14 @@ pub once_only : (posts : List Post) (h : History) (seat : ℕ) → AreAnswers no
 once_only posts h seat are = record {
   one = λ i j a b q r. one_enters nothing_noted (length_of h) posts i j a b q r nothing_length are;
   repeated = λ i b r at.
-    let found = repeats nothing_noted (length_of h) posts i b r nothing_length are at in
-    elim found.1 as (λ _. EnteredBefore posts i b.producer b.number r) [
-      inl noted ↦
-        let none : (last_of nothing_noted b.producer).number ≡ 0 = ap (λ (last : LastBatch). last.number) (nothing_of b.producer) in
-        let its : (last_of nothing_noted b.producer).number ≡ b.number = ap (λ (last : LastBatch). last.number) noted in
-        let low = found.0.number_low in
-        absurd (omega arith)
-    | inr earlier ↦ earlier ];
+      let found = repeats nothing_noted (length_of h) posts i b r nothing_length are at in
+      elim found.1 as (λ _. EnteredBefore posts i b.producer b.number r) [
+        | inl noted ↦
+            let none : (last_of nothing_noted b.producer).number ≡ 0 = ap (λ (last : LastBatch). last.number) (nothing_of b.producer) in
+            let its : (last_of nothing_noted b.producer).number ≡ b.number = ap (λ (last : LastBatch). last.number) noted in
+            let low = found.0.number_low in
+            absurd (omega arith)
+        | inr earlier ↦ earlier
+      ];
   held = λ i call r at. holds h seat (entered posts) r (items_in call) (stands_among nothing_noted (length_of h) posts i call r are at);
 }

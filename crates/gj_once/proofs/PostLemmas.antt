@@ -1,5 +1,5 @@
 -- One post: what it brings into the history.
-use Rattle.std.proofs.Common.{◌≡◌, ◌+◌, ◌++◌, ℕ, List, [], length, refl, ap, sym, subst, ◌∙◌, append-nil, arith, Result, Ok, Err, OnOk, OnErr, add-zero}
+use Rattle.std.proofs.Common.{◌≡◌, ◌+◌, ℕ, List, [], length, ap, sym, subst, ◌∙◌, append-nil, Result, Ok, Err, add-zero}
 use Rattle.gj_base.specs.Asks.{NotedBatch}
 use Rattle.gj_base.specs.History.{IsWindow, end_of, entries_by, extend, more}
 use Rattle.gj_base.specs.declared.history.History.{History}

@@ -1,7 +1,6 @@
 -- What stands after the first posts of a list.
-use Rattle.std.proofs.Common.{◌≡◌, ◌+◌, ◌++◌, ◌<◌, ℕ, List, [], ◌∷◌, length, map, refl, ap, sym, subst, ◌∙◌, append-nil, append_assoc, arith, add_assoc, length-append, zero-add, add-zero, suc, zero, Option, Some, None, Result, Ok, Err, slice_get, get_or}
+use Rattle.std.proofs.Common.{◌≡◌, ◌+◌, ◌++◌, ℕ, List, [], ◌∷◌, length, refl, ap, sym, subst, ◌∙◌, append-nil, append_assoc, arith, length-append, add-zero, Some, Result, slice_get}
 use Rattle.std.proofs.lemmas.List.{map-append}
-use Rattle.std.proofs.lemmas.Option.{slice_get_read}
 use Rattle.gj_base.specs.History.{entries_by, extend}
 use Rattle.gj_base.specs.declared.history.History.{History}
 use Rattle.gj_base.specs.declared.item.Entry.{Entry}
@@ -58,7 +57,7 @@ answers_more lasts before (first ∷ posts) post are is =
 extend_twice : (h : History) (seat : ℕ) (xs ys : List Item) → extend (extend h (entries_by seat xs)) (entries_by seat ys) ≡ extend h (entries_by seat (xs ++ ys))
 extend_twice h seat xs ys =
     let e : (h.entries ++ entries_by seat xs) ++ entries_by seat ys ≡ h.entries ++ entries_by seat (xs ++ ys) =
-      append_assoc h.entries (entries_by seat xs) (entries_by seat ys) ∙ ap (λ es. h.entries ++ es) (sym (map-append _ xs ys)) in
+    append_assoc h.entries (entries_by seat xs) (entries_by seat ys) ∙ ap (λ es. h.entries ++ es) (sym (map-append _ xs ys)) in
     ap (λ (es : List Entry). let k : History = record { first = h.first; entries = es } in k) e
 
 pub posted_more : (lasts : List LastBatch) (before : ℕ) (calls : List Call) (answers : List (Result Noted OnceError)) (now next : List LastBatch) (end last : ℕ) (K L M : History → Type 0)
@@ -70,9 +69,9 @@ pub posted_more : (lasts : List LastBatch) (before : ℕ) (calls : List Call) (a
 posted_more lasts before calls answers now next end last K L M call answer all done pushed at is noted end_is keeps =
     let post : Post = record { call = call; answer = answer } in
     let more : posts_of calls all ≡ posts_of calls answers ++ post ∷ [] =
-      ap (λ xs. posts_of calls xs) pushed ∙ posts_more calls answers call answer at in
+    ap (λ xs. posts_of calls xs) pushed ∙ posts_more calls answers call answer at in
     let items : entered (posts_of calls all) ≡ entered (posts_of calls answers) ++ entering call answer =
-      ap entered more ∙ entered_more (posts_of calls answers) post in
+    ap entered more ∙ entered_more (posts_of calls answers) post in
     let Is : List LastBatch → Type 0 = λ l. IsAnswer l end call answer in
     let At : ℕ → Type 0 = λ n. IsAnswer (noted_after lasts (posts_of calls answers)) n call answer in
     let Are : List Post → Type 0 = λ ps. AreAnswers lasts before ps in
@@ -80,11 +79,11 @@ posted_more lasts before calls answers now next end last K L M call answer all d
       exact = subst Are (sym more) (answers_more lasts before (posts_of calls answers) post done.exact (subst At done.end_is (subst Is done.noted is)));
       noted = noted ∙ (ap (λ l. noted_by l call answer) done.noted ∙ (sym (noted_more lasts (posts_of calls answers) post) ∙ ap (λ ps. noted_after lasts ps) (sym more)));
       end_is =
-        let long : length (entered (posts_of calls all)) ≡ length (entered (posts_of calls answers)) + length (entering call answer) =
+          let long : length (entered (posts_of calls all)) ≡ length (entered (posts_of calls answers)) + length (entering call answer) =
           ap length items ∙ length-append (entered (posts_of calls answers)) (entering call answer) in
-        let was = done.end_is in
-        omega arith;
+          let was = done.end_is in
+          omega arith;
       keeps = λ h seat kept.
-        let P : List Item → Type 0 = λ xs. M (extend h (entries_by seat xs)) in
-        subst P (sym items) (subst M (extend_twice h seat (entered (posts_of calls answers)) (entering call answer)) (keeps _ seat (done.keeps h seat kept)));
+          let P : List Item → Type 0 = λ xs. M (extend h (entries_by seat xs)) in
+          subst P (sym items) (subst M (extend_twice h seat (entered (posts_of calls answers)) (entering call answer)) (keeps _ seat (done.keeps h seat kept)));
     }

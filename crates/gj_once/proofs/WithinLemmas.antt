@@ -1,5 +1,5 @@
 -- What is noted stays within the history.
-use Rattle.std.proofs.Common.{◌≡◌, ◌≤◌, ◌+◌, ◌-◌, ℕ, zero, suc, List, [], ◌∷◌, ◌++◌, length, get_or, set, arith, refl, ap, sym, subst, ◌∙◌, length-append, Result, Ok, Err, OnOk, OnErr}
+use Rattle.std.proofs.Common.{◌≡◌, ◌≤◌, ◌+◌, ◌-◌, ℕ, zero, suc, List, [], ◌∷◌, ◌++◌, length, get_or, set, arith, ap, sym, subst, ◌∙◌, length-append, Result, Ok, Err, OnOk, OnErr}
 use Rattle.gj_base.specs.declared.history.Shown.{Shown}
 use Rattle.gj_base.specs.declared.index.IndexError.{IndexError}
 use Rattle.gj_base.specs.declared.item.Item.{Item}

@@ -20,12 +20,7 @@ fn one(alloc: Global, rt: &impl Abort, user: u64) -> Result<ItemList, Memory>
 }
 
 /// The producer's batch of this number, of one interaction.
-fn batch(
-    alloc: Global,
-    rt: &impl Abort,
-    producer: u32,
-    number: u64,
-) -> Result<NotedItems, Memory>
+fn batch(alloc: Global, rt: &impl Abort, producer: u32, number: u64) -> Result<NotedItems, Memory>
     requires producer { (1 ≤ producer) × (producer ≤ 1024) }
     requires number { (1 ≤ number) × (number ≤ 2 ^ 48) }
 {
@@ -38,11 +33,7 @@ fn batch(
 }
 
 /// An empty index of two segments of 16, whose store fails the posts of these numbers.
-fn index_of(
-    rt: &impl Abort,
-    alloc: Global,
-    fails: Vec<u64>,
-) -> Result<OnceIndex<Shaky>, Memory> {
+fn index_of(rt: &impl Abort, alloc: Global, fails: Vec<u64>) -> Result<OnceIndex<Shaky>, Memory> {
     let conf = Conf::make(16, 2).expect(rt, "16 and 2 are in range");
     let graph = ListGraph::make(alloc, conf, 0)?;
     let once = Once::new(alloc)?;

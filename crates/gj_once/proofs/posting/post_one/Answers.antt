@@ -14,4 +14,4 @@ returns-in-Noted-clause-end g c =
 pub returns-in-Noted-clause-keeps : goal.returns-in-Noted-clause-keeps
 returns-in-Noted-clause-keeps g c =
     noted_keeps (g.N.Index.keeps c.args.index.now) (g.N.Index.keeps c.post_noted.new.self) c.in-Noted.asked c.args.call.now c.post_noted.result c.in-Noted.is
-      c.post_noted.ensures.ok c.post_noted.ensures.keeps
+    c.post_noted.ensures.ok c.post_noted.ensures.keeps

@@ -9,6 +9,6 @@ unfolding nothing_noted
 returns-in-Ok c = record {
   exact = c.in-Ok.ensures.items_if_clones_equal (λ y e. e);
   each =
-    let P : List LastBatch → Type 0 = λ lasts. (producer : ℕ) → last_of lasts producer ≡ no_batch in
-    subst P (sym (c.in-Ok.ensures.items_if_clones_equal (λ y e. e))) nothing_of;
+      let P : List LastBatch → Type 0 = λ lasts. (producer : ℕ) → last_of lasts producer ≡ no_batch in
+      subst P (sym (c.in-Ok.ensures.items_if_clones_equal (λ y e. e))) nothing_of;
 }
