@@ -1,0 +1,5 @@
+pub mod JudgingLemmas
+pub mod WithinLemmas
+pub mod PostLemmas
+pub mod PostingLemmas
+pub mod OnceLemmas

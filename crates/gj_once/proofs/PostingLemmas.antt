@@ -1,0 +1,89 @@
+-- What stands after the first posts of a list.
+use Rattle.std.proofs.Common.{◌≡◌, ◌+◌, ◌++◌, ℕ, List, [], ◌∷◌, length, refl, ap, sym, subst, ◌∙◌, append-nil, append_assoc, arith, length-append, add-zero, Some, Result, slice_get}
+use Rattle.std.proofs.lemmas.List.{map-append}
+use Rattle.gj_base.specs.History.{entries_by, extend}
+use Rattle.gj_base.specs.declared.history.History.{History}
+use Rattle.gj_base.specs.declared.item.Entry.{Entry}
+use Rattle.gj_base.specs.declared.item.Item.{Item}
+use Rattle.gj_once.specs.declared.noted_index.Noted.{Noted}
+use Rattle.gj_once.specs.declared.noted_index.OnceError.{OnceError}
+use Rattle.gj_once.specs.declared.posting.Call.{Call}
+use Rattle.gj_once.specs.declared.verdict.LastBatch.{LastBatch}
+use Rattle.gj_once.specs.PostLists.{AreAnswers, IsAnswer, Post, entered, entering, noted_after, noted_by, posts_of}
+use Rattle.gj_once.proofs.PostLemmas.{extend_none}
+
+-- the first posts of a list were answered so; at first this was noted and the history had that length, and now these
+pub record Posted (lasts : List LastBatch) (before : ℕ) (calls : List Call) (answers : List (Result Noted OnceError)) (now : List LastBatch) (end : ℕ) (K L : History → Type 0) : Type 0 where
+  pub exact : AreAnswers lasts before (posts_of calls answers)
+  pub noted : now ≡ noted_after lasts (posts_of calls answers)
+  pub end_is : end ≡ before + length (entered (posts_of calls answers))
+  pub keeps : (h : History) (seat : ℕ) → K h → L (extend h (entries_by seat (entered (posts_of calls answers))))
+
+-- no post
+pub posted_none : (lasts : List LastBatch) (before : ℕ) (calls : List Call) (K : History → Type 0) → Posted lasts before calls [] lasts before K K
+posted_none lasts before calls K = record { exact = tt; noted = refl; end_is = sym (add-zero before); keeps = λ h seat kept. subst K (sym (extend_none h)) kept }
+
+-- one post more
+posts_more : (calls : List Call) (answers : List (Result Noted OnceError)) (call : Call) (answer : Result Noted OnceError) → slice_get calls (length answers) ≡ Some call
+    → posts_of calls (answers ++ answer ∷ []) ≡ posts_of calls answers ++ (record { call = call; answer = answer }) ∷ []
+posts_more [] answers call answer at = absurd (cc)
+posts_more (first ∷ calls) [] call answer at =
+    let same : first ≡ call = cc in
+    ap (λ (c : Call). let post : Post = record { call = c; answer = answer } in post ∷ []) same
+posts_more (first ∷ calls) (one ∷ answers) call answer at =
+    ap (λ (ps : List Post). let post : Post = record { call = first; answer = one } in post ∷ ps) (posts_more calls answers call answer at)
+
+entered_more : (posts : List Post) (post : Post) → entered (posts ++ post ∷ []) ≡ entered posts ++ entering post.call post.answer
+entered_more [] post = append-nil (entering post.call post.answer)
+entered_more (first ∷ posts) post =
+    ap (λ xs. entering first.call first.answer ++ xs) (entered_more posts post) ∙ sym (append_assoc (entering first.call first.answer) (entered posts) (entering post.call post.answer))
+
+noted_more : (lasts : List LastBatch) (posts : List Post) (post : Post) → noted_after lasts (posts ++ post ∷ []) ≡ noted_by (noted_after lasts posts) post.call post.answer
+noted_more lasts [] post = refl
+noted_more lasts (first ∷ posts) post = noted_more (noted_by lasts first.call first.answer) posts post
+
+answers_more : (lasts : List LastBatch) (before : ℕ) (posts : List Post) (post : Post) → AreAnswers lasts before posts
+    → IsAnswer (noted_after lasts posts) (before + length (entered posts)) post.call post.answer → AreAnswers lasts before (posts ++ post ∷ [])
+answers_more lasts before [] post are is =
+    let P : ℕ → Type 0 = λ n. IsAnswer lasts n post.call post.answer in
+    (subst P (add-zero before) is, tt)
+answers_more lasts before (first ∷ posts) post are is =
+    let all : length (entering first.call first.answer ++ entered posts) ≡ length (entering first.call first.answer) + length (entered posts) = length-append (entering first.call first.answer) (entered posts) in
+    let e : before + length (entering first.call first.answer ++ entered posts) ≡ (before + length (entering first.call first.answer)) + length (entered posts) = omega arith in
+    let P : ℕ → Type 0 = λ n. IsAnswer (noted_after lasts (first ∷ posts)) n post.call post.answer in
+    (are.0, answers_more (noted_by lasts first.call first.answer) (before + length (entering first.call first.answer)) posts post are.1 (subst P e is))
+
+-- two batches of one seat are one batch
+extend_twice : (h : History) (seat : ℕ) (xs ys : List Item) → extend (extend h (entries_by seat xs)) (entries_by seat ys) ≡ extend h (entries_by seat (xs ++ ys))
+extend_twice h seat xs ys =
+    let e : (h.entries ++ entries_by seat xs) ++ entries_by seat ys ≡ h.entries ++ entries_by seat (xs ++ ys) =
+    append_assoc h.entries (entries_by seat xs) (entries_by seat ys) ∙ ap (λ es. h.entries ++ es) (sym (map-append _ xs ys)) in
+    ap (λ (es : List Entry). let k : History = record { first = h.first; entries = es } in k) e
+
+pub posted_more : (lasts : List LastBatch) (before : ℕ) (calls : List Call) (answers : List (Result Noted OnceError)) (now next : List LastBatch) (end last : ℕ) (K L M : History → Type 0)
+    (call : Call) (answer : Result Noted OnceError) (all : List (Result Noted OnceError)) → Posted lasts before calls answers now end K L
+    → all ≡ answers ++ answer ∷ [] → slice_get calls (length answers) ≡ Some call
+    → IsAnswer now end call answer → next ≡ noted_by now call answer → last ≡ end + length (entering call answer)
+    → ((h : History) (seat : ℕ) → L h → M (extend h (entries_by seat (entering call answer))))
+    → Posted lasts before calls all next last K M
+posted_more lasts before calls answers now next end last K L M call answer all done pushed at is noted end_is keeps =
+    let post : Post = record { call = call; answer = answer } in
+    let more : posts_of calls all ≡ posts_of calls answers ++ post ∷ [] =
+    ap (λ xs. posts_of calls xs) pushed ∙ posts_more calls answers call answer at in
+    let items : entered (posts_of calls all) ≡ entered (posts_of calls answers) ++ entering call answer =
+    ap entered more ∙ entered_more (posts_of calls answers) post in
+    let Is : List LastBatch → Type 0 = λ l. IsAnswer l end call answer in
+    let At : ℕ → Type 0 = λ n. IsAnswer (noted_after lasts (posts_of calls answers)) n call answer in
+    let Are : List Post → Type 0 = λ ps. AreAnswers lasts before ps in
+    record {
+      exact = subst Are (sym more) (answers_more lasts before (posts_of calls answers) post done.exact (subst At done.end_is (subst Is done.noted is)));
+      noted = noted ∙ (ap (λ l. noted_by l call answer) done.noted ∙ (sym (noted_more lasts (posts_of calls answers) post) ∙ ap (λ ps. noted_after lasts ps) (sym more)));
+      end_is =
+          let long : length (entered (posts_of calls all)) ≡ length (entered (posts_of calls answers)) + length (entering call answer) =
+          ap length items ∙ length-append (entered (posts_of calls answers)) (entering call answer) in
+          let was = done.end_is in
+          omega arith;
+      keeps = λ h seat kept.
+          let P : List Item → Type 0 = λ xs. M (extend h (entries_by seat xs)) in
+          subst P (sym items) (subst M (extend_twice h seat (entered (posts_of calls answers)) (entering call answer)) (keeps _ seat (done.keeps h seat kept)));
+    }

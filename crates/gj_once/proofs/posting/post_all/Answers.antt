@@ -1,0 +1,46 @@
+use Rattle.std.proofs.Common.{ℕ, ◌≡◌, ◌++◌, List, [], ◌∷◌, Result, refl, length-append, length, Some, slice_get, sym, subst, ap, arith}
+use Rattle.std.proofs.lemmas.Option.{slice_get_read}
+use Rattle.gj_base.specs.History.{end_of, length_of}
+use Rattle.gj_base.proofs.Windows.{stands_end}
+use Rattle.gj_once.specs.declared.verdict.LastBatch.{LastBatch}
+use Rattle.gj_once.specs.Judging.{nothing_noted}
+use Rattle.gj_once.specs.PostLists.{AreAnswers, posts_of}
+use Rattle.gj_once.proofs.OnceLemmas.{once_only}
+use Rattle.gj_once.specs.declared.noted_index.Noted.{Noted}
+use Rattle.gj_once.specs.declared.noted_index.OnceError.{OnceError}
+use Rattle.gj_once.proofs.PostingLemmas.{Posted, posted_none, posted_more}
+use Rattle.gj_once.proofs.posting.post_all.Goals as goal
+
+pub loop-call-init : goal.loop-call-init
+loop-call-init g c = record {
+  each = ap length c.in-Ok.ensures.items;
+  room = omega (arith, c.in-Ok.ensures.capacity);
+  posted =
+      let P : List (Result Noted OnceError) → Type 0 = λ answers. Posted (g.N.NotedIndex.noted c.args.index.now) (end_of (g.N.Index.viewed c.args.index.now)) c.args.calls.now answers
+      (g.N.NotedIndex.noted c.args.index.now) (end_of (g.N.Index.viewed c.args.index.now)) (g.N.Index.keeps c.args.index.now) (g.N.Index.keeps c.args.index.now) in
+      subst P (sym c.in-Ok.ensures.items) (posted_none _ _ c.args.calls.now (g.N.Index.keeps c.args.index.now));
+}
+
+pub loop-call-preserved : goal.loop-call-preserved
+loop-call-preserved g c = record {
+  each =
+      let long : length c.put.new.answers.items ≡ length (c.loop-call.answers.items ++ c.post_one-answer.result ∷ []) = ap length c.put.ensures.items in
+      let more = length-append c.loop-call.answers.items (c.post_one-answer.result ∷ []) in
+      omega (arith, c.loop-call.invariant.each);
+  room = omega (arith, c.loop-call.invariant.room, c.put.ensures.capacity);
+  posted =
+      let at : slice_get c.args.calls.now (length c.loop-call.answers.items) ≡ Some c.call-item.result =
+      let each = c.loop-call.invariant.each in
+      subst (λ n. slice_get c.args.calls.now n ≡ Some c.call-item.result) (sym each) (slice_get_read c.args.calls.now _ c.loop-call.call-index c.call-item.result refl c.loop-call-test.true c.call-item.is) in
+      posted_more _ _ c.args.calls.now c.loop-call.answers.items _ _ _ _ (g.N.Index.keeps c.args.index.now) (g.N.Index.keeps c.loop-call.index) (g.N.Index.keeps c.post_one-answer.new.index)
+      c.call-item.result c.post_one-answer.result c.put.new.answers.items c.loop-call.invariant.posted c.put.ensures.items at
+      c.post_one-answer.ensures.exact c.post_one-answer.ensures.noted c.post_one-answer.ensures.end c.post_one-answer.ensures.keeps;
+}
+
+pub returns-clause-once : goal.returns-clause-once
+returns-clause-once g c h seat nothing kept =
+    let P : List LastBatch → ℕ → Type 0 = λ lasts before. AreAnswers lasts before (posts_of c.args.calls.now c.loop-call.answers.items) in
+    let ends : end_of (g.N.Index.viewed c.args.index.now) ≡ length_of h =
+    stands_end (g.N.Index.viewed c.args.index.now) h (g.met.N.Index.is_window c.args.index.now).configuration.segments_low (g.met.N.Index.stands c.args.index.now h kept) in
+    once_only (posts_of c.args.calls.now c.loop-call.answers.items) h seat
+    (subst (λ (n : ℕ). P nothing_noted n) ends (subst (λ (l : List LastBatch). P l (end_of (g.N.Index.viewed c.args.index.now))) nothing c.loop-call.invariant.posted.exact))

@@ -1,0 +1,4 @@
+pub mod Judging
+pub mod NotedPosts
+pub mod OnceLaws
+pub mod PostLists
