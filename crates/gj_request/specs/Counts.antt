@@ -38,14 +38,14 @@ seeds_of name value = do
   list ← array_of 1000 name value
   each (add_seed name) no_seeds list
 
+abbrev pub seeds : Form
+seeds = record { shape = some_seeds; reading = seeds_of }
+
 -- seed users, each with its weight
 pub record AreWeighted (seeds : WeightedSeeds) : Type 0 where
   pub users : AreSeeds seeds.users
   pub as_many : length seeds.weights ≡ length seeds.users
   pub weights : IsTrue (are_weights seeds.weights)
-
-abbrev pub seeds : Form
-seeds = record { shape = some_seeds; reading = seeds_of }
 
 -- the text names a kind
 abbrev pub is_kind : List ℕ → Bool
@@ -55,7 +55,7 @@ is_kind text = is_some (kind_named text)
 unfoldable pub kinds_object : Name → Data → Result Data Reason
 kinds_object name = object_with name is_kind
 
--- how many have to be of a kind, by the value under its name
+-- how many seeds have to have interacted by a kind: the value under its name, by default 0
 abbrev pub least_said : Name → Option Data → Result ℕ Reason
 least_said name None = Ok 0
 least_said name (Some value) = number_of 0 1000 name value
