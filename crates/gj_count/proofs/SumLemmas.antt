@@ -1,10 +1,11 @@
 -- Sums over seeds: what the ends of a seed add, and that they add once.
-use Rattle.std.proofs.Common.{◌≡◌, ℕ, ◌+◌, ◌*◌, ◌<◌, ◌≤◌, ◌==◌, ◌∙◌, ◌&&◌, ◌||◌, Bool, true, false, cond, List, [], ◌∷◌, length, take, get_or, fold, zip, sum_by, count_by, slice_get, Some, refl, sym, ap, arith, ⊎_elim}
+use Rattle.std.proofs.Common.{◌≡◌, ℕ, ◌+◌, ◌*◌, ◌<◌, ◌≤◌, ◌==◌, ◌∙◌, ◌&&◌, ◌||◌, Bool, true, false, cond, List, [], ◌∷◌, length, take, get_or, fold, zip, sum_by, count_by, slice_get, Some, IsTrue, nat_le, refl, sym, ap, arith, ⊎_elim}
 use Rattle.std.specs.List.{list_any}
-use Rattle.std.proofs.lemmas.Bool.{eq-eqb, ne_eqb, cases_eq}
-use Rattle.std.proofs.lemmas.List.Sums.{fold_more, sum_by_more}
+use Rattle.std.proofs.lemmas.Bool.{eq-eqb, ne_eqb, leb-true, and_parts, cases_eq}
+use Rattle.std.proofs.lemmas.List.Sums.{fold_more, sum_by_more, AllPass-from_list_all}
 use Rattle.std.proofs.lemmas.Option.{get_or_from_slice_get, slice_get_within}
 use Rattle.std.proofs.lemmas.Slice.Zip.{get_or-zip, length-zip}
+use Rattle.gj_base.specs.Asks.{are_weights}
 use Rattle.gj_base.specs.Ends.{ends}
 use Rattle.gj_base.specs.Kinds.{same_kind}
 use Rattle.gj_base.specs.declared.item.Item.{Item}
@@ -143,3 +144,11 @@ pub ends_more : (found : List (ℕ × Kind)) (i : ℕ) (end : ℕ × Kind) (turn
 ends_more found i end turn weight post s is =
     let step : PostSums → ℕ × Kind → PostSums = λ t e. cond (e.0 == post) (with_end turn weight t e.1) t in
     fold_more step s found i end (slice_get_within found i end is) ∙ ap (step (with_ends (take i found) turn weight post s)) (get_or_from_slice_get found i end end is)
+
+-- ---- the ask's weights
+
+pub weight_in_range : (weights : List ℕ) (i : ℕ) → IsTrue (are_weights weights) → i < length weights → get_or weights i 0 ≤ 1000000
+weight_in_range weights i are within =
+    let weight = get_or weights i 0 in
+    let both = AllPass-from_list_all (λ (w : ℕ). nat_le 1 w && nat_le w 1000000) weights are i 0 within in
+    leb-true weight 1000000 (and_parts (nat_le 1 weight) (nat_le weight 1000000) both).1

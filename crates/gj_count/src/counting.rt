@@ -1,6 +1,7 @@
 //! The weights of posts.
-ghost use Rattle.std.specs.Prelude.{◌≡◌, ◌<◌, ◌≤◌, ◌==◌, nat_lt, ℕ,  if◌then◌else◌, zip, IfOk, OnOk};
+ghost use Rattle.std.specs.Prelude.{◌≡◌, ◌<◌, ◌≤◌, ◌==◌, nat_lt, ℕ,  if◌then◌else◌, zip, length, IsTrue, IfOk, OnOk};
 ghost use Rattle.gj_base.specs.declared.side.Side.TheVariants as sides;
+ghost use Rattle.gj_base.specs.Asks.{are_weights};
 ghost use Rattle.gj_base.specs.Ends.{ends};
 ghost use Rattle.gj_base.specs.Tally.{number_at, with_number};
 ghost use Rattle.gj_count.specs.Sums.{sums_at, with_end, with_ends, weight_in, AreWithin, AreSums};
@@ -62,14 +63,23 @@ fn add_seed<G: Graph>(
 }
 
 /// The sums of the posts that the seeds lead to: one call of the graph a seed, and one an edge.
-fn sums_of<G: Graph>(alloc: Global, graph: &G, ask: &CountAsk) -> Result<Sums, Memory>
+fn sums_of<G: Graph>(
+    alloc: Global,
+    graph: &G,
+    mask: Mask,
+    seeds: &[u64],
+    weights: &[u64],
+) -> Result<Sums, Memory>
+    requires few { length seeds.now ≤ 1000 }
+    requires as_many { length weights.now ≡ length seeds.now }
+    requires weights { IsTrue (are_weights weights.now) }
     ensures within { IfOk result (λ sums. (p : ℕ) → AreWithin 1000 (sums_at sums p)) }
-    ensures exact { IfOk result (λ sums. (p : ℕ) → AreSums (G.shown graph.now).items ask.now.mask ask.now.seeds (zip ask.now.seeds ask.now.weights) p (sums_at sums p)) }
+    ensures exact { IfOk result (λ sums. (p : ℕ) → AreSums (G.shown graph.now).items mask seeds.now (zip seeds.now weights.now) p (sums_at sums p)) }
 {
     let mut sums = HashMap::new(alloc);
-    for i in 0..ask.seeds.len() {
-        let weight = *ask.weights.get(i);
-        add_seed(graph, ask.mask, &mut sums, *ask.seeds.get(i), i as u64 + 1, weight)?;
+    for i in 0..seeds.len() {
+        let turn = i as u64 + 1;
+        add_seed(graph, mask, &mut sums, seeds[i], turn, weights[i])?;
     }
     Ok(sums)
 }
@@ -104,6 +114,6 @@ fn weights_in(alloc: Global, sums: &Sums, least: KindLeast) -> Result<Weights, M
 pub fn count_second<G: Graph>(alloc: Global, graph: &G, ask: &CountAsk) -> Result<Weights, Memory>
     ensures exact { IfOk result (λ weights. weights ≡ weights_of (G.shown graph.now).items ask.now) }
 {
-    let sums = sums_of(alloc, graph, ask)?;
+    let sums = sums_of(alloc, graph, ask.mask, ask.seeds.as_slice(), ask.weights.as_slice())?;
     weights_in(alloc, &sums, ask.least)
 }
