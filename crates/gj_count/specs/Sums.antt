@@ -1,8 +1,9 @@
 -- Sums over seeds that come in turns, counted from 1. Own: a seed adds to a sum once, however often it is met.
-use Rattle.std.specs.Prelude.{◌≡◌, ℕ, ◌+◌, ◌*◌, ◌≤◌, ◌==◌, ◌&&◌, nat_le, nat_eq, Bool, if◌then◌else◌, List, fold, sum_by, count_by, unwrap_or}
+use Rattle.std.specs.Prelude.{◌≡◌, ℕ, ◌+◌, ◌*◌, ◌≤◌, ◌==◌, ◌&&◌, nat_le, nat_eq, Bool, if◌then◌else◌, List, fold, sum_by, count_by, unwrap_or, IsTrue}
 use Rattle.std.specs.HashMap.{HashMap, get}
 use Rattle.gj_base.specs.Asks.{Least}
 use Rattle.gj_base.specs.Kinds.{same_kind}
+use Rattle.gj_base.specs.Tally.{is_tally, number_at}
 use Rattle.gj_base.specs.declared.kind.Kind.{Kind}
 use Rattle.gj_base.specs.declared.kind.Kind.TheVariants.{Click, Favorite, Retweet, Reply, Tweet}
 use Rattle.gj_base.specs.declared.item.Item.{Item}
@@ -82,3 +83,8 @@ kind_sum s Tweet = s.tweet
 pub record AreSums (items : List Item) (mask : Mask) (seeds : List ℕ) (pairs : List (ℕ × ℕ)) (post : ℕ) (s : PostSums) : Type 0 where
   pub weight : s.weight.total ≡ sum_by (λ pair. if met items mask post pair.0 then pair.1 else 0) pairs
   pub kinds : (kind : Kind) → (kind_sum s kind).total ≡ count_by (met_by items mask post kind) seeds
+
+-- the pairs are the weights of the posts that have these sums
+pub record AreWeights (least : Least) (sums : ℕ → PostSums) (pairs : List (ℕ × ℕ)) : Type 0 where
+  pub tally : IsTrue (is_tally pairs)
+  pub numbers : (post : ℕ) → number_at pairs post ≡ weight_in least (sums post)

@@ -1,14 +1,14 @@
 //! The weights of posts.
-ghost use Rattle.std.specs.Prelude.{◌≡◌, ◌<◌, ◌≤◌, ◌==◌, nat_lt, ℕ,  if◌then◌else◌, zip, length, IsTrue, IfOk, OnOk};
+ghost use Rattle.std.specs.Prelude.{◌≡◌, ◌<◌, ◌≤◌, ◌==◌, nat_lt, ℕ,  if◌then◌else◌, zip, length, ◌*◌, All, IsTrue, IfOk, OnOk};
 ghost use Rattle.gj_base.specs.declared.side.Side.TheVariants as sides;
 ghost use Rattle.gj_base.specs.Asks.{are_weights};
 ghost use Rattle.gj_base.specs.Ends.{ends};
-ghost use Rattle.gj_base.specs.Tally.{number_at, with_number};
-ghost use Rattle.gj_count.specs.Sums.{sums_at, with_end, with_ends, weight_in, AreWithin, AreSums};
+ghost use Rattle.gj_base.specs.Tally.{with_number};
+ghost use Rattle.gj_count.specs.Sums.{sums_at, with_end, with_ends, weight_in, AreWithin, AreSums, AreWeights};
 ghost use Rattle.gj_count.specs.Weights.{weights_of};
 
 use crate::post_sums::PostSums;
-use gj_base::{CountAsk, Graph, Kind, KindLeast, Mask, Memory, Side, Tally};
+use gj_base::{CountAsk, Graph, Kind, KindLeast, MAX_SEEDS, MAX_WEIGHT, Mask, Memory, Side, Tally};
 use std::alloc::Global;
 use std::collections::HashMap;
 
@@ -101,7 +101,7 @@ fn put_weight(
 
 /// The weights of posts that have these sums.
 fn weights_in(alloc: Global, sums: &Sums, least: KindLeast) -> Result<Weights, Memory>
-    ensures { IfOk result (λ weights. (p : ℕ) → number_at weights p ≡ weight_in least (sums_at sums.now p)) }
+    ensures { IfOk result (AreWeights least (sums_at sums.now)) }
 {
     let mut weights = Tally::new(alloc);
     for (post, of_post) in sums {
@@ -113,6 +113,7 @@ fn weights_in(alloc: Global, sums: &Sums, least: KindLeast) -> Result<Weights, M
 /// The weights of the posts of the graph's window.
 pub fn count_second<G: Graph>(alloc: Global, graph: &G, ask: &CountAsk) -> Result<Weights, Memory>
     ensures exact { IfOk result (λ weights. weights ≡ weights_of (G.shown graph.now).items ask.now) }
+    ensures in_range { IfOk result (λ weights. All (λ pair. pair.1 ≤ MAX_SEEDS * MAX_WEIGHT) weights) }
 {
     let sums = sums_of(alloc, graph, ask.mask, ask.seeds.as_slice(), ask.weights.as_slice())?;
     weights_in(alloc, &sums, ask.least)
