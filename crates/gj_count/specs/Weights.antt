@@ -1,24 +1,24 @@
 -- Second degree by count: the posts that seed users interacted with, by the weights of these seeds. After GraphJet's
 -- recommendation by counted second-degree interactions (PVLDB 9(13), 2016). Own: weights, and the least support by kind.
-use Rattle.std.specs.Prelude.{ℕ, ◌==◌, ◌&&◌, nat_le, Bool, if◌then◌else◌, List, [], map, filter, fold, zip, sum_by, count_by}
-use Rattle.std.specs.List.{list_any, list_all}
+use Rattle.std.specs.Prelude.{ℕ, ◌==◌, ◌&&◌, nat_le, Bool, if◌then◌else◌, List, [], map, fold, zip, sum_by, count_by}
+use Rattle.std.specs.List.{list_any}
 use Rattle.gj_base.specs.Asks.{CountQuery, Least}
-use Rattle.gj_base.specs.Ends.{passes}
+use Rattle.gj_base.specs.Ends.{ends}
 use Rattle.gj_base.specs.Kinds.{same_kind}
 use Rattle.gj_base.specs.Tally.{with_number}
 use Rattle.gj_base.specs.declared.item.Item.{Item}
 use Rattle.gj_base.specs.declared.kind.Kind.{Kind}
 use Rattle.gj_base.specs.declared.kind.Kind.TheVariants.{Click, Favorite, Retweet, Reply, Tweet}
 use Rattle.gj_base.specs.declared.mask.Mask.{Mask}
+use Rattle.gj_base.specs.declared.side.Side.TheVariants.{User}
 
 -- the user has an eligible interaction with the post
 abbrev pub met : List Item → Mask → ℕ → ℕ → Bool
-met items mask post user = list_any (λ x. passes mask x && ((x.user == user) && (x.post == post))) items
+met items mask post user = list_any (λ end. end.0 == post) (ends items User user mask)
 
 -- the user has an eligible interaction of this kind with the post
 abbrev pub met_by : List Item → Mask → ℕ → Kind → ℕ → Bool
-met_by items mask post kind user =
-    list_any (λ x. passes mask x && ((x.user == user) && ((x.post == post) && same_kind kind x.kind))) items
+met_by items mask post kind user = list_any (λ end. (end.0 == post) && same_kind kind end.1) (ends items User user mask)
 
 -- how many seeds have an eligible interaction of this kind with the post: a seed counts once
 abbrev pub support : List Item → CountQuery → ℕ → Kind → ℕ

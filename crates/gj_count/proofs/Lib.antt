@@ -1,0 +1,3 @@
+pub mod MapLemmas
+pub mod SumLemmas
+pub mod WeightLemmas
