@@ -27,6 +27,7 @@ plain_reply query w = of_reply Uncounted (record {
   walk = λ n r. tt;
   sub = λ n r. tt;
   sim = λ n r. tt;
+  count = λ n r. tt;
   user = λ n id d r. tt;
   post = λ n id d r. tt;
   stats = λ n b c k. tt;
