@@ -8,7 +8,7 @@ use Rattle.matchit.specs.Seek.{first}
 use Rattle.matchit.specs.Route.{scan}
 use Rattle.matchit.specs.Router.{RouteOf}
 use Rattle.gj_base.specs.declared.ask.Route.{Route}
-use Rattle.gj_base.specs.declared.ask.Route.TheVariants.{Interactions, Walk, Subgraph, Similar, User, Post, Stats}
+use Rattle.gj_base.specs.declared.ask.Route.TheVariants.{Interactions, Walk, Subgraph, Similar, Count, User, Post, Stats}
 use Rattle.gj_http.specs.Routes.{Routed, exact, with_id, first_of, is_part, route_of, id_of}
 use Rattle.gj_http.specs.Table.{table}
 use Rattle.gj_http.proofs.RowLemmas.{hits, AreBytes, IsPlain, ArePlain, IsRight, seek_right}
@@ -104,7 +104,8 @@ none_first a b ea eb = rw ea eb
 -- the rows of the table, in the router's order
 abbrev rows : RowsOf (RouteOf Route)
 rows =
-    (codes "/interactions", record { pattern = codes "/interactions"; text = codes "/interactions"; names = []; value = Interactions })
+    (codes "/count", record { pattern = codes "/count"; text = codes "/count"; names = []; value = Count })
+    ∷ (codes "/interactions", record { pattern = codes "/interactions"; text = codes "/interactions"; names = []; value = Interactions })
     ∷ (codes "/posts/" ++ 256 ∷ [], record { pattern = codes "/posts/" ++ 256 ∷ []; text = codes "/posts/{id}"; names = (8, 10) ∷ []; value = Post })
     ∷ (codes "/similar", record { pattern = codes "/similar"; text = codes "/similar"; names = []; value = Similar })
     ∷ (codes "/stats", record { pattern = codes "/stats"; text = codes "/stats"; names = []; value = Stats })
@@ -119,20 +120,23 @@ table_rows = refl
 
 rows_plain : ArePlain rows
 rows_plain = (
-  plain_text (codes "/interactions") (are_bytes (codes "/interactions") refl),
+  plain_text (codes "/count") (are_bytes (codes "/count") refl),
   (
-    plain_param (codes "/posts/") (are_bytes (codes "/posts/") refl),
+    plain_text (codes "/interactions") (are_bytes (codes "/interactions") refl),
     (
-      plain_text (codes "/similar") (are_bytes (codes "/similar") refl),
+      plain_param (codes "/posts/") (are_bytes (codes "/posts/") refl),
       (
-        plain_text (codes "/stats") (are_bytes (codes "/stats") refl),
+        plain_text (codes "/similar") (are_bytes (codes "/similar") refl),
         (
-          plain_text (codes "/subgraph") (are_bytes (codes "/subgraph") refl),
+          plain_text (codes "/stats") (are_bytes (codes "/stats") refl),
           (
-            plain_param (codes "/users/") (are_bytes (codes "/users/") refl),
+            plain_text (codes "/subgraph") (are_bytes (codes "/subgraph") refl),
             (
-              plain_text (codes "/walk") (are_bytes (codes "/walk") refl),
-              tt,
+              plain_param (codes "/users/") (are_bytes (codes "/users/") refl),
+              (
+                plain_text (codes "/walk") (are_bytes (codes "/walk") refl),
+                tt,
+              ),
             ),
           ),
         ),
@@ -175,26 +179,29 @@ at_param t path row found s leads w =
 agrees_by : (o : Option (RouteOf Route)) (path : List ℕ) → IsRight o rows path → Agrees o path
 agrees_by None path n =
     none_first (exact (codes "/interactions") Interactions path) _
-    (miss_exact (codes "/interactions") Interactions path (are_bytes (codes "/interactions") refl) n.0)
+    (miss_exact (codes "/interactions") Interactions path (are_bytes (codes "/interactions") refl) n.1.0)
     (none_first (exact (codes "/walk") Walk path) _
-    (miss_exact (codes "/walk") Walk path (are_bytes (codes "/walk") refl) n.1.1.1.1.1.1.0)
+    (miss_exact (codes "/walk") Walk path (are_bytes (codes "/walk") refl) n.1.1.1.1.1.1.1.0)
     (none_first (exact (codes "/subgraph") Subgraph path) _
-    (miss_exact (codes "/subgraph") Subgraph path (are_bytes (codes "/subgraph") refl) n.1.1.1.1.0)
+    (miss_exact (codes "/subgraph") Subgraph path (are_bytes (codes "/subgraph") refl) n.1.1.1.1.1.0)
     (none_first (exact (codes "/similar") Similar path) _
-    (miss_exact (codes "/similar") Similar path (are_bytes (codes "/similar") refl) n.1.1.0)
+    (miss_exact (codes "/similar") Similar path (are_bytes (codes "/similar") refl) n.1.1.1.0)
+    (none_first (exact (codes "/count") Count path) _
+    (miss_exact (codes "/count") Count path (are_bytes (codes "/count") refl) n.0)
     (none_first (with_id (codes "/users/") User path) _
-    (miss_part (codes "/users/") User path (are_bytes (codes "/users/") refl) n.1.1.1.1.1.0)
+    (miss_part (codes "/users/") User path (are_bytes (codes "/users/") refl) n.1.1.1.1.1.1.0)
     (none_first (with_id (codes "/posts/") Post path) _
-    (miss_part (codes "/posts/") Post path (are_bytes (codes "/posts/") refl) n.1.0)
-    (miss_exact (codes "/stats") Stats path (are_bytes (codes "/stats") refl) n.1.1.1.0))))))
-agrees_by (Some found) path (inl w) = at_text (codes "/interactions") path _ found refl refl w
-agrees_by (Some found) path (inr (inl w)) = at_param (codes "/posts/") path _ found refl post_leads w
-agrees_by (Some found) path (inr (inr (inl w))) = at_text (codes "/similar") path _ found refl refl w
-agrees_by (Some found) path (inr (inr (inr (inl w)))) = at_text (codes "/stats") path _ found refl refl w
-agrees_by (Some found) path (inr (inr (inr (inr (inl w))))) = at_text (codes "/subgraph") path _ found refl refl w
-agrees_by (Some found) path (inr (inr (inr (inr (inr (inl w)))))) = at_param (codes "/users/") path _ found refl user_leads w
-agrees_by (Some found) path (inr (inr (inr (inr (inr (inr (inl w))))))) = at_text (codes "/walk") path _ found refl refl w
-agrees_by (Some found) path (inr (inr (inr (inr (inr (inr (inr w))))))) = absurd w
+    (miss_part (codes "/posts/") Post path (are_bytes (codes "/posts/") refl) n.1.1.0)
+    (miss_exact (codes "/stats") Stats path (are_bytes (codes "/stats") refl) n.1.1.1.1.0)))))))
+agrees_by (Some found) path (inl w) = at_text (codes "/count") path _ found refl refl w
+agrees_by (Some found) path (inr (inl w)) = at_text (codes "/interactions") path _ found refl refl w
+agrees_by (Some found) path (inr (inr (inl w))) = at_param (codes "/posts/") path _ found refl post_leads w
+agrees_by (Some found) path (inr (inr (inr (inl w)))) = at_text (codes "/similar") path _ found refl refl w
+agrees_by (Some found) path (inr (inr (inr (inr (inl w))))) = at_text (codes "/stats") path _ found refl refl w
+agrees_by (Some found) path (inr (inr (inr (inr (inr (inl w)))))) = at_text (codes "/subgraph") path _ found refl refl w
+agrees_by (Some found) path (inr (inr (inr (inr (inr (inr (inl w))))))) = at_param (codes "/users/") path _ found refl user_leads w
+agrees_by (Some found) path (inr (inr (inr (inr (inr (inr (inr (inl w)))))))) = at_text (codes "/walk") path _ found refl refl w
+agrees_by (Some found) path (inr (inr (inr (inr (inr (inr (inr (inr w)))))))) = absurd w
 
 -- what the router of the table finds is the route of the path
 pub table_agrees : (path : List ℕ) → AreBytes path → Agrees (first table path) path

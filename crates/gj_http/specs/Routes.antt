@@ -1,7 +1,7 @@
 -- The routes of paths and the method of each route. Own: the table.
 use Rattle.std.specs.Prelude.{ℕ, List, [], ◌∷◌, Bool, true, false, Option, Some, None, Result, Ok, Err, ◌==◌, if◌then◌else◌, codes}
 use Rattle.gj_base.specs.declared.ask.Route.{Route}
-use Rattle.gj_base.specs.declared.ask.Route.TheVariants.{Interactions, Walk, Subgraph, Similar, User, Post, Stats}
+use Rattle.gj_base.specs.declared.ask.Route.TheVariants.{Interactions, Walk, Subgraph, Similar, Count, User, Post, Stats}
 use Rattle.gj_http.specs.declared.message.Method.{Method}
 use Rattle.gj_http.specs.declared.message.Method.TheVariants.{Get, Post as Posts, Other}
 use Rattle.gj_http.specs.declared.found.RouteError.{RouteError}
@@ -58,9 +58,10 @@ route_of path =
     (first_of (exact (codes "/walk") Walk path)
     (first_of (exact (codes "/subgraph") Subgraph path)
     (first_of (exact (codes "/similar") Similar path)
+    (first_of (exact (codes "/count") Count path)
     (first_of (with_id (codes "/users/") User path)
     (first_of (with_id (codes "/posts/") Post path)
-    (exact (codes "/stats") Stats path))))))
+    (exact (codes "/stats") Stats path)))))))
 
 -- the route's method is GET; the others' is POST
 abbrev pub is_get : Route → Bool
@@ -71,6 +72,7 @@ is_get Interactions = false
 is_get Walk = false
 is_get Subgraph = false
 is_get Similar = false
+is_get Count = false
 
 -- the method is the one of a route whose method is GET, or is not
 abbrev pub is_method : Bool → Method → Bool
@@ -96,4 +98,5 @@ id_of Interactions path = None
 id_of Walk path = None
 id_of Subgraph path = None
 id_of Similar path = None
+id_of Count path = None
 id_of Stats path = None

@@ -26,6 +26,7 @@ impl Routes {
         add(&mut router, "/walk", Route::Walk)?;
         add(&mut router, "/subgraph", Route::Subgraph)?;
         add(&mut router, "/similar", Route::Similar)?;
+        add(&mut router, "/count", Route::Count)?;
         add(&mut router, "/users/{id}", Route::User)?;
         add(&mut router, "/posts/{id}", Route::Post)?;
         add(&mut router, "/stats", Route::Stats)?;

@@ -112,6 +112,7 @@ fn each_path_has_its_route(rt: HostRuntime) -> Result<(), Fail> {
     expect_route(&rt, alloc, Method::Post, "/walk", Route::Walk, None);
     expect_route(&rt, alloc, Method::Post, "/subgraph", Route::Subgraph, None);
     expect_route(&rt, alloc, Method::Post, "/similar", Route::Similar, None);
+    expect_route(&rt, alloc, Method::Post, "/count", Route::Count, None);
     expect_route(&rt, alloc, Method::Get, "/users/1", Route::User, Some("1"));
     expect_route(
         &rt,
@@ -143,6 +144,7 @@ fn other_paths_and_other_methods_have_none(rt: HostRuntime) -> Result<(), Fail> 
     }
     let post = RouteError::WrongMethod { get: false };
     expect_error(&rt, alloc, Method::Get, "/walk", post);
+    expect_error(&rt, alloc, Method::Get, "/count", post);
     expect_error(&rt, alloc, Method::Other, "/interactions", post);
     let get = RouteError::WrongMethod { get: true };
     expect_error(&rt, alloc, Method::Post, "/posts/1", get);

@@ -7,6 +7,7 @@ use Rattle.serde_json.specs.Events.{items_len}
 use Rattle.serde_json.specs.Find.{as_number, as_u64, as_bool, as_str, as_array}
 use Rattle.gj_base.specs.declared.kind.Kind.{Kind}
 use Rattle.gj_base.specs.declared.kind.Kind.TheVariants.{Click, Favorite, Retweet, Reply, Tweet}
+use Rattle.gj_base.specs.Asks.{Least}
 use Rattle.gj_base.specs.Interaction.{Interaction}
 use Rattle.gj_base.specs.Filter.{Filter}
 use Rattle.gj_base.specs.Kinds.{kind_name, one_kind, with_kind}
@@ -14,6 +15,7 @@ use Rattle.gj_request.specs.Results.{◌>>=◌, formed, ranged}
 use Rattle.gj_request.specs.declared.name.Name.{Name}
 use Rattle.gj_request.specs.declared.refusal.Reason.{Reason}
 use Rattle.gj_request.specs.declared.refusal.Reason.TheVariants.{Range}
+use Rattle.gj_request.specs.declared.seeds.WeightedSeeds.{WeightedSeeds}
 
 -- a number from the least to the most
 unfoldable pub number_of : ℕ → ℕ → Name → Data → Result ℕ Reason
@@ -94,6 +96,8 @@ pub data Shape : Type 0 where
   some_ids : Shape
   some_kinds : Shape
   some_items : Shape
+  some_seeds : Shape
+  a_least : Shape
 
 abbrev pub Content : Shape → Type 0
 Content a_number = ℕ
@@ -102,6 +106,8 @@ Content a_kind = Kind
 Content some_ids = List ℕ
 Content some_kinds = Filter
 Content some_items = List Interaction
+Content some_seeds = WeightedSeeds
+Content a_least = Least
 
 -- a form: which values have it, and what they say, under the name of a field
 pub record Form : Type 0 where

@@ -1,3 +1,4 @@
+pub mod Counts
 pub mod Forms
 pub mod Names
 pub mod Plain

@@ -11,6 +11,7 @@ use Rattle.gj_base.specs.declared.ask.Query.TheVariants as queries
 use Rattle.gj_base.specs.declared.ask.Ask.{Ask}
 use Rattle.gj_base.specs.declared.ask.Ask.TheVariants.{Items, Query}
 use Rattle.gj_base.specs.Kinds.{since_moment}
+use Rattle.gj_request.specs.Counts.{count_rows}
 use Rattle.gj_request.specs.Results.{◌>>=◌, ranged}
 use Rattle.gj_request.specs.Tables.{read_by, batch_rows, walk_rows, subgraph_rows, similar_rows}
 use Rattle.gj_request.specs.declared.name.Name.TheVariants as names
@@ -60,12 +61,17 @@ unfoldable pub similar_of : Data → Result Ask Reason
 similar_of = read_by similar_rows (λ post steps seed kinds top since not_before.
     Query (queries.Sim (record { post = post; steps = steps; seed = seed; mask = since_moment kinds not_before; top = top; since = since }))) names.Body
 
+unfoldable pub count_of : Data → Result Ask Reason
+count_of = read_by count_rows (λ seeds kinds least top proof since not_before.
+    Query (queries.Count (record { seeds = seeds.users; weights = seeds.weights; mask = since_moment kinds not_before; least = least; top = top; proof = proof; since = since }))) names.Body
+
 -- what a request asks for
 unfoldable pub asked : Route → Option (List ℕ) → List ℕ → Result Ask Reason
 asked routes.Interactions id body = parsed (tree_of body) >>= batch_of
 asked routes.Walk id body = parsed (tree_of body) >>= walk_of
 asked routes.Subgraph id body = parsed (tree_of body) >>= subgraph_of
 asked routes.Similar id body = parsed (tree_of body) >>= similar_of
+asked routes.Count id body = parsed (tree_of body) >>= count_of
 asked routes.User id body = path_id id >>= λ user. Ok (Query (queries.User user))
 asked routes.Post id body = path_id id >>= λ post. Ok (Query (queries.Post post))
 asked routes.Stats id body = Ok (Query queries.Stats)

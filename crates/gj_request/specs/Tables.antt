@@ -52,16 +52,24 @@ filled (row ∷ rows) build value = do
 abbrev pub is_known : List Name → List ℕ → Bool
 is_known known text = list_any (λ name. bytes_eq text (name_text name)) known
 
+-- each name of an object passes
+abbrev pub all_names : (List ℕ → Bool) → Members → Bool
+all_names passes no_members = true
+all_names passes (member text value members) = passes text && all_names passes members
+
+-- the value, where it is an object with no other names than those that pass
+abbrev pub object_with : Name → (List ℕ → Bool) → Data → Result Data Reason
+object_with name passes value = do
+  members ← formed name (as_object value)
+  if all_names passes members then Ok value else Err (Field names.Unknown)
+
 -- each name of an object is one of these
 abbrev pub are_known : List Name → Members → Bool
-are_known known no_members = true
-are_known known (member text value members) = is_known known text && are_known known members
+are_known known = all_names (is_known known)
 
 -- the value, where it is an object with no other names than these
 unfoldable pub object_of : Name → List Name → Data → Result Data Reason
-object_of name known value = do
-  members ← formed name (as_object value)
-  if are_known known members then Ok value else Err (Field names.Unknown)
+object_of name known = object_with name (is_known known)
 
 -- what is built of an object by a table
 abbrev pub read_by : {A : Type 0} (rows : List Row) → Builder rows A → Name → Data → Result A Reason

@@ -17,6 +17,12 @@ use gj_base::{IdList, Kind, MAX_ID, Mask};
 use serde_json::{Map, Value};
 use std::alloc::Global;
 
+/// The results of a query that does not say how many.
+pub const DEFAULT_TOP: u32 = 10;
+
+/// The seed users in a social proof, where a query does not say how many.
+pub const DEFAULT_PROOF: u32 = 3;
+
 /// Refuses what is no object, and an object with a name that is not in the table.
 #[tactic(auto, unfolding(crate::specs::Tables::object_of))]
 pub fn check_names(name: Name, value: &Value, table: &[Name]) -> Result<(), Reason>

@@ -4,7 +4,7 @@ ghost use Rattle.std.specs.BTreeSet.{contains};
 ghost use Rattle.std.specs.Ordering.{nat_cmp};
 ghost use Rattle.serde_json.specs.View.{view, items_view};
 ghost use Rattle.gj_base.specs.Asks.{are_distinct, are_ids, AreSeeds};
-ghost use Rattle.gj_request.specs.Forms.{number_of, truth_of, kind_of, kinds_of, kinds_in, add_kind, array_of, ids_of, add_id, each};
+ghost use Rattle.gj_request.specs.Forms.{number_of, truth_of, kind_named, kind_of, kinds_of, kinds_in, add_kind, array_of, ids_of, add_id, each};
 ghost use Rattle.gj_request.specs.SeenIds.{HasThese};
 ghost use Rattle.gj_request.specs.Results.{Refuses, Gives};
 
@@ -42,6 +42,13 @@ pub fn read_truth(name: Name, value: &Value) -> Result<bool, Reason>
     }
 }
 
+/// The kind that a text names.
+pub fn kind_named(text: &str) -> Option<Kind>
+    ensures { result ≡ kind_named text.now }
+{
+    Kind::from_name(text)
+}
+
 /// A kind, by its name.
 #[tactic(auto, unfolding(crate::specs::Forms::kind_of))]
 pub fn read_kind(name: Name, value: &Value) -> Result<Kind, Reason>
@@ -50,7 +57,7 @@ pub fn read_kind(name: Name, value: &Value) -> Result<Kind, Reason>
     let Some(text) = value.as_str() else {
         return Err(Reason::Field(name));
     };
-    match Kind::from_name(text) {
+    match kind_named(text) {
         None => Err(Reason::Range(name)),
         Some(kind) => Ok(kind),
     }
@@ -82,7 +89,7 @@ fn push_id(
 }
 
 /// Puts an identifier into a set, and says whether it was new there.
-fn insert_id(seen: &mut BTreeSet<u64>, id: u64) -> Result<bool, Memory>
+pub fn insert_id(seen: &mut BTreeSet<u64>, id: u64) -> Result<bool, Memory>
     ensures is_new { IfOk result (λ is_new. is_new ≡ not (contains nat_cmp seen.old id)) }
     ensures others { OnOk result ((other : ℕ) → contains nat_cmp seen.new other ≡ (contains nat_cmp seen.old other || other == id)) }
 {

@@ -4,18 +4,23 @@
 //! it is. `read_request` takes memory; the names take none.
 #![tactic(auto)]
 
+mod count;
 mod fields;
 mod forms;
 mod items;
+mod least;
 mod name;
 mod path;
 mod plain;
 mod refusal;
 mod request;
+mod seeds;
 
 pub use name::Name;
 pub use refusal::{Reason, Refusal};
 pub use request::read_request;
 
+#[cfg(test)]
+mod count_tests;
 #[cfg(test)]
 mod tests;

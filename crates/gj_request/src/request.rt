@@ -5,7 +5,10 @@ ghost use Rattle.gj_request.specs.Requests.{tree_of, parsed, batch_of, walk_of, 
 ghost use Rattle.gj_request.specs.Results.{Refuses, Gives};
 ghost use Rattle.gj_base.specs.declared.ask.Route.TheVariants.{Interactions};
 
-use crate::fields::{check_names, id, ids, kinds, moment, number, small, truth};
+use crate::count::read_count;
+use crate::fields::{
+    DEFAULT_PROOF, DEFAULT_TOP, check_names, id, ids, kinds, moment, number, small, truth,
+};
 use crate::items::items;
 use crate::name::Name;
 use crate::path::read_path_id;
@@ -39,6 +42,7 @@ pub fn read_request(
         Route::Walk => read_walk(alloc, &parse(alloc, body)?),
         Route::Subgraph => read_subgraph(alloc, &parse(alloc, body)?),
         Route::Similar => Ok(read_similar(&parse(alloc, body)?)?),
+        Route::Count => read_count(alloc, &parse(alloc, body)?),
         Route::User => Ok(Ask::Query(Query::User(read_path_id(id.unwrap())?))),
         Route::Post => Ok(Ask::Query(Query::Post(read_path_id(id.unwrap())?))),
         Route::Stats => Ok(Ask::Query(Query::Stats)),
@@ -92,12 +96,6 @@ fn read_batch(alloc: Global, tree: &Value) -> Result<Ask, Refusal>
     let items = items(alloc, tree, Name::Items)?;
     Ok(Ask::Items(items))
 }
-
-/// The results of a query that does not say how many.
-const DEFAULT_TOP: u32 = 10;
-
-/// The seed users in a social proof, where a query does not say how many.
-const DEFAULT_PROOF: u32 = 3;
 
 /// The names of a walk's fields.
 const WALK: [Name; 10] = [
