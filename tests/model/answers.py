@@ -116,6 +116,21 @@ def shared(window, ask):
     return co
 
 
+def weights(window, ask):
+    """The sum of the weights of the seed users that interacted with each post, where of each kind at least as many did as
+    the query wants."""
+    by_kind = defaultdict(set)
+    for item in eligible(window, ask):
+        if item.user in ask.seeds:
+            by_kind[item.post, item.kind].add(item.user)
+    found = {}
+    for post in {post for post, _ in by_kind}:
+        users_by = {kind: by_kind.get((post, kind), set()) for kind in KINDS}
+        if all(len(users_by[kind]) >= ask.least[kind] for kind in KINDS):
+            found[post] = sum(ask.seeds[user] for user in set().union(*users_by.values()))
+    return found
+
+
 def ranked(numbers, top):
     """Posts with their numbers above 0: the largest first, then the lower identifier."""
     pairs = [(post, number) for post, number in numbers.items() if number > 0]
@@ -153,7 +168,16 @@ def answer_similar(window, ask):
     return [{"post": post, "co": co, "degree": degree} for co, degree, post in scores[: ask.top]]
 
 
-QUERIES = {"walk": answer_walk, "subgraph": answer_subgraph, "similar": answer_similar}
+def answer_count(window, ask):
+    return with_proofs(window, ask, "weight", ranked(weights(window, ask), ask.top))
+
+
+QUERIES = {
+    "walk": answer_walk,
+    "subgraph": answer_subgraph,
+    "similar": answer_similar,
+    "count": answer_count,
+}
 
 
 def answer_query(history, route, ask):

@@ -83,6 +83,26 @@ def items(name, tree):
     return [Item(**read_fields(element, ITEM, name)) for element in array(name, tree, 4096)]
 
 
+def weighted_seeds(name, tree):
+    """The weights of the seed users, by their identifiers."""
+    weights = {}
+    for element in array(name, tree, 1000):
+        seed = read_fields(element, WEIGHTED, name)
+        if seed["user"] in weights:
+            raise Refusal("range", name)
+        weights[seed["user"]] = seed["weight"]
+    return weights
+
+
+def leasts(name, tree):
+    """A number for each kind, and 0 where none is given."""
+    if type(tree) is not dict:
+        raise Refusal("field", name)
+    if not tree.keys() <= set(KINDS):
+        raise Refusal("field", "unknown")
+    return {kind: number(0, 1000)(name, tree.get(kind, 0)) for kind in KINDS}
+
+
 # The tables of fields, in the order in which they are read: name, form, default.
 
 NEEDED = object()
@@ -93,6 +113,8 @@ ITEM = [
     ("kind", kind, NEEDED),
     ("at", moment, 0),
 ]
+
+WEIGHTED = [("user", identifier, NEEDED), ("weight", number(1, 1000000), NEEDED)]
 
 SEEDS = ("seeds", identifiers, NEEDED)
 STEPS = ("steps", number(1, 100000), NEEDED)
@@ -127,6 +149,15 @@ FIELDS = {
         NOT_BEFORE,
     ],
     "similar": [("post", identifier, NEEDED), STEPS, SEED, MASK, TOP, SINCE, NOT_BEFORE],
+    "count": [
+        ("seeds", weighted_seeds, NEEDED),
+        MASK,
+        ("least", leasts, dict.fromkeys(KINDS, 0)),
+        TOP,
+        PROOF,
+        SINCE,
+        NOT_BEFORE,
+    ],
 }
 
 
@@ -148,7 +179,7 @@ def read_fields(tree, table, whole):
 
 
 def read_body(route, body):
-    """What a body asks for on one of the four routes that read one."""
+    """What a body asks for on one of the five routes that read one."""
     try:
         tree = tree_of(body)
     except NoReading:

@@ -44,6 +44,7 @@ ROUTES = {
     "walk": "POST",
     "subgraph": "POST",
     "similar": "POST",
+    "count": "POST",
     "users": "GET",
     "posts": "GET",
     "stats": "GET",

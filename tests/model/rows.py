@@ -58,7 +58,7 @@ def measured(measure):
     )
 
 
-VISITS, UNITS = measured("visits"), measured("units")
+VISITS, UNITS, WEIGHT = measured("visits"), measured("units"), measured("weight")
 
 
 def refused(what, name=None):
@@ -144,6 +144,62 @@ def similarities():
         ask = post("/similar", '{"post":10,"steps":2,"seed":%d}' % seed)
         reply = found(2, result) if seed == 5 else found(2)
         yield Row(f"a trip of seed {seed}", two + ask, [posted(0, 2), reply])
+
+
+COUNTED = [(1, 10, "click"), (1, 20, "click"), (2, 20, "click")]
+
+
+def counts():
+    """A post has the weights of the seed users that interacted with it, each once."""
+    both, of_10 = WEIGHT(20, 8, [1, 2]), WEIGHT(10, 3, [1])
+    two = '"seeds":[{"user":1,"weight":3},{"user":2,"weight":5}]'
+    for fields, results in [
+        (two, [both, of_10]),
+        ('"seeds":[{"weight":5,"user":2},{"user":1,"weight":3}]', [both, of_10]),
+        (two + ',"top":1', [both]),
+        (two + ',"proof":1', [WEIGHT(20, 8, [1]), of_10]),
+        (two + ',"proof":0,"least":{}', [WEIGHT(20, 8, []), WEIGHT(10, 3, [])]),
+        (two + ',"least":{"click":1}', [both, of_10]),
+        (two + ',"least":{"click":2}', [both]),
+        (two + ',"least":{"click":3}', []),
+        (two + ',"least":{"tweet":1,"click":1}', []),
+        (two + ',"kinds":["reply"]', []),
+        ('"seeds":[{"user":2,"weight":1000000}]', [WEIGHT(20, 1000000, [2])]),
+        ('"seeds":[{"user":1,"weight":1}]', [WEIGHT(10, 1, [1]), WEIGHT(20, 1, [1])]),
+        ('"seeds":[{"user":9,"weight":1}]', []),
+        (two + ',"since":3', [both, of_10]),
+    ]:
+        ask = post("/count", "{%s}" % fields)
+        yield Row(f"a count {fields}", batch(*COUNTED) + ask, [posted(0, 3), found(3, *results)])
+    ask = post("/count", '{%s,"since":4}' % two)
+    behind = (409, '{"error":"behind","length":3}')
+    yield Row("a count of a longer history", batch(*COUNTED) + ask, [posted(0, 3), behind])
+
+
+def counts_by_kind():
+    """A seed user counts once for each kind, and only what the mask lets through is looked at."""
+    six = batch(
+        *[(1, 10, "click", 5), (1, 10, "click", 5), (1, 10, "reply", 9), (2, 10, "reply", 5)],
+        *[(3, 10, "click", 9), (2, 20, "tweet", 9)],
+    )
+    seeds = '"seeds":[{"user":1,"weight":2},{"user":2,"weight":4},{"user":3,"weight":8}]'
+    all_of_10, of_20 = WEIGHT(10, 14, [1, 2, 3]), WEIGHT(20, 4, [2])
+    for fields, results in [
+        ("", [all_of_10, of_20]),
+        (',"least":{"reply":2}', [all_of_10]),
+        (',"least":{"click":2,"reply":2}', [all_of_10]),
+        (',"least":{"click":3}', []),
+        (',"least":{"tweet":1}', [of_20]),
+        (',"kinds":["click"]', [WEIGHT(10, 10, [1, 3])]),
+        (',"kinds":["click"],"least":{"reply":1}', []),
+        (',"not_before":9', [WEIGHT(10, 10, [1, 3]), of_20]),
+        (',"not_before":9,"least":{"click":1,"reply":1}', [WEIGHT(10, 10, [1, 3])]),
+        (',"not_before":9,"least":{"reply":2}', []),
+        (',"not_before":9,"kinds":["reply"]', [WEIGHT(10, 2, [1])]),
+        (',"not_before":10', []),
+    ]:
+        ask = post("/count", "{%s%s}" % (seeds, fields))
+        yield Row(f"a count of three{fields}", six + ask, [posted(0, 6), found(6, *results)])
 
 
 def moments():
@@ -333,6 +389,52 @@ def refused_bodies():
         yield Row(f"{body[:60]!r}", stream, [refused(what, name), NO_ROUTE])
 
 
+def refused_counts():
+    """The faults of seed users and of the least are named in their order."""
+    one = '{"user":1,"weight":1}'
+    many = ",".join('{"user":%d,"weight":1}' % id for id in range(1001))
+    for fields, what, name in [
+        ('"least":[]', "field", "seeds"),
+        ('"seeds":%s,"x":1' % one, "field", "unknown"),
+        ('"seeds":[%s],"steps":1' % one, "field", "unknown"),
+        ('"seeds":' + one, "field", "seeds"),
+        ('"seeds":[]', "range", "seeds"),
+        ('"seeds":[%s]' % many, "range", "seeds"),
+        ('"seeds":[%s,null]' % many, "range", "seeds"),
+        ('"seeds":[1]', "field", "seeds"),
+        ('"seeds":[null,{"user":-1}]', "field", "seeds"),
+        ('"seeds":[{"user":-1},null]', "field", "user"),
+        ('"seeds":[{"user":-1,"id":1}]', "field", "unknown"),
+        ('"seeds":[{}]', "field", "user"),
+        ('"seeds":[{"weight":0}]', "field", "user"),
+        ('"seeds":[{"user":9223372036854775808,"weight":0}]', "range", "user"),
+        ('"seeds":[{"user":1}]', "field", "weight"),
+        ('"seeds":[{"user":1,"weight":1.0}]', "field", "weight"),
+        ('"seeds":[{"user":1,"weight":0}]', "range", "weight"),
+        ('"seeds":[{"user":1,"weight":1000001}]', "range", "weight"),
+        ('"seeds":[%s,{"user":1,"weight":0}]' % one, "range", "weight"),
+        ('"seeds":[%s,{"user":1,"weight":2}]' % one, "range", "seeds"),
+        ('"seeds":[%s,{"user":1,"weight":2},null]' % one, "range", "seeds"),
+        ('"seeds":[null],"kinds":1,"least":1', "field", "seeds"),
+        ('"seeds":[%s],"kinds":[],"least":1' % one, "range", "kinds"),
+        ('"seeds":[%s],"least":null' % one, "field", "least"),
+        ('"seeds":[%s],"least":[],"top":0' % one, "field", "least"),
+        ('"seeds":[%s],"least":{"like":0,"click":-1}' % one, "field", "unknown"),
+        ('"seeds":[%s],"least":{"click":1001}' % one, "range", "least"),
+        ('"seeds":[%s],"least":{"tweet":-1,"click":1001}' % one, "range", "least"),
+        ('"seeds":[%s],"least":{"tweet":1001,"click":"1"}' % one, "field", "least"),
+        ('"seeds":[%s],"least":{},"top":0,"proof":11' % one, "range", "top"),
+        ('"seeds":[%s],"proof":11,"since":-1' % one, "range", "proof"),
+        ('"seeds":[%s],"since":-1,"not_before":-1' % one, "field", "since"),
+        ('"seeds":[%s],"not_before":-1' % one, "field", "not_before"),
+    ]:
+        stream = post("/count", "{%s}" % fields) + get("/none")
+        yield Row(fields[-60:], stream, [refused(what, name), NO_ROUTE])
+    good = '{"seeds":[%s],"least":{"click":1000,"favorite":1000,"retweet":1000,"reply":1000,"tweet":1000}}'
+    all_but_one = many.rpartition(",{")[0]
+    yield Row("a count at its limits", post("/count", good % all_but_one), [found(0)])
+
+
 def refused_items():
     """An item's faults are named in their order, and nothing of its batch is accepted."""
     good = '{"user":1,"post":2,"kind":"tweet"}'
@@ -367,6 +469,8 @@ def paths():
         ("/none", NO_ROUTE),
         ("?/stats", NO_ROUTE),
         ("/walk", NO_METHOD),
+        ("/count", NO_METHOD),
+        ("/count/", NO_ROUTE),
     ]:
         yield Row(path[:40], get(path), [reply])
     for stream, method in [(get("/walk"), b"POST"), (post("/users/x", "{"), b"GET")]:
@@ -375,9 +479,10 @@ def paths():
 
 
 SECTIONS = [
-    *[whole_sessions, cut_sessions, walks, subgraphs, similarities, moments, all_moments],
+    *[whole_sessions, cut_sessions, walks, subgraphs, similarities, counts, counts_by_kind],
+    *[moments, all_moments],
     *[windows, long_batches, vertices, refused_streams, whole_heads, closings],
-    *[refused_bodies, refused_items, paths],
+    *[refused_bodies, refused_counts, refused_items, paths],
 ]
 
 # What the program's words are, and its status without input.

@@ -144,7 +144,7 @@ def main():
     option("--program", required=True)
     option("--count", type=int, default=2000)
     option("--seed", type=int, default=1, help="the number of the first session")
-    option("--only-first-routes", action="store_true", help="without /subgraph and /similar")
+    option("--only-first-routes", action="store_true", help="without /subgraph, /similar and /count")
     option("--options", action="store_true", help="with --capacity and --segments")
     option("--jobs", type=int, default=2, help="programs that run at a time")
     option("--keep", help="a file for the input of a session that differs")

@@ -42,6 +42,16 @@ def some_seeds(rng):
     return list({an_id(rng) for _ in range(rng.randint(1, 5))})
 
 
+def some_weighted(rng):
+    weight = lambda: rng.choice([1, 1000000, rng.randint(1, 5), rng.randint(1, 5)])
+    return [{"user": user, "weight": weight()} for user in some_seeds(rng)]
+
+
+def some_leasts(rng):
+    some_kinds = rng.sample(KINDS, rng.choice([0, 1, 1, 1, 1, 2]))
+    return {kind: rng.choice([0, 1, 1, 1, 1, 2]) for kind in some_kinds}
+
+
 def steps(rng):
     if rng.random() < 0.01:
         return 100000
@@ -59,6 +69,7 @@ OPTIONAL = {
     "top": lambda rng: rng.choice([1, 2, 3, 10, 100]),
     "proof": lambda rng: rng.choice([0, 1, 2, 10]),
     "hide": lambda rng: rng.random() < 0.7,
+    "least": some_leasts,
     "since": since,
     "not_before": lambda rng: rng.choice([0, 1, a_moment(rng), a_moment(rng), a_moment(rng)]),
 }
@@ -67,6 +78,7 @@ NEEDED = {
     "walk": {"seeds": some_seeds, "steps": steps},
     "subgraph": {"seeds": some_seeds, "iterations": lambda rng: rng.choice([1, 2, 3, 7, 20])},
     "similar": {"post": an_id, "steps": steps},
+    "count": {"seeds": some_weighted},
 }
 AT_THE_LIMITS = {
     "steps": "0 1 100000 100001",
@@ -82,12 +94,23 @@ AT_THE_LIMITS = {
     "kinds": '[] ["like"] ["click","reply","click"] ["click","like",1] ["click",1,"like"]',
     "hide": "true false",
     "items": "[]",
+    "least": """
+        {} [] {"click":0} {"tweet":1000} {"tweet":1001} {"reply":-1} {"like":0} {"click":null}
+        {"tweet":-1,"click":1001} {"reply":1001,"retweet":1.0} {"favorite":1,"click":1}
+    """,
 }
+WEIGHTED_AT_THE_LIMITS = """
+    [] {} [1] [{"user":0,"weight":1}] [{"user":9223372036854775807,"weight":1000000}]
+    [{"user":2,"weight":0}] [{"user":2,"weight":1000001}] [{"user":9223372036854775808,"weight":0}]
+    [{"user":1,"weight":1},{"user":1,"weight":1}] [{"user":1,"weight":1},{"user":1,"weight":0}]
+    [{"user":1,"weight":1},{"weight":2,"user":2},{"user":1,"weight":3},null]
+"""
 OPTIONAL_OF = {
     "interactions": [],
-    "walk": list(OPTIONAL),
+    "walk": [name for name in OPTIONAL if name != "least"],
     "subgraph": ["kinds", "top", "proof", "since", "not_before"],
     "similar": ["seed", "kinds", "top", "since", "not_before"],
+    "count": ["kinds", "least", "top", "proof", "since", "not_before"],
 }
 
 
@@ -169,7 +192,7 @@ ODD_VALUES = [
     *["", " ", "1 2", "[1 2]", '{"a" 1}', "1,", "\ufeff1", "\u00a01", "\x0c1", "\x001"],
 ]
 ODD_TREES = [text for text in ODD_VALUES if is_tree(text)]
-ODD_NAMES = r"x Steps st\u0065ps steps\u0000 seeds item \u0069tems since user".split()
+ODD_NAMES = r"x Steps st\u0065ps steps\u0000 seeds item \u0069tems since user weight least".split()
 ODD_NAMES += ["", "steps ", "\u00e9", "at", "not_before", "Not_before", "notbefore"]
 ODD_ITEMS = """
     1 null [] {} "" true {"x":0}
@@ -193,6 +216,27 @@ ODD_ITEMS = """
 """.split()
 
 
+ODD_SEEDS = """
+    1 null [] {} "" true {"x":0} {"user":1} {"weight":1} {"user":1,"weight":1,"x":0} {"user":1,"post":1}
+    {"user":1,"weight":-1} {"user":1,"weight":null} {"user":1,"weight":1.0} {"user":1,"weight":"1"}
+    {"user":2,"weight":0} {"user":2,"weight":1000001} {"user":2,"weight":18446744073709551616}
+    {"user":9223372036854775808,"weight":-1} {"user":-1,"weight":0} {"user":"1","weight":1}
+    {"user":9223372036854775807,"weight":1} {"user":0,"weight":1000000} {"weight":2,"user":3}
+    {"user":2,"user":3,"weight":4} {"user":4,"weight":0,"weight":1} {"user":4,"weight":1,"weight":0}
+    {"user":1,"Weight":1} {"u\u0073er":5,"weight":1} {"user":6,"weight":[1]} {"user":1,"weight":2}
+""".split()
+ODD_ELEMENTS = {
+    "interactions": ("items", '{"user":1,"post":2,"kind":"click"}', ODD_ITEMS),
+    "count": ("seeds", '{"user":1,"weight":2}', ODD_SEEDS),
+}
+
+
+def limits(route, name):
+    """The texts of a field's values at its limits."""
+    weighted = route == "count" and name == "seeds"
+    return (WEIGHTED_AT_THE_LIMITS if weighted else AT_THE_LIMITS[name]).split()
+
+
 def nested(rng):
     depth = rng.choice([1, 2, 60, 125, 126, 127, 128, 129, 200, 5000])
     shape = rng.choice(["array", "object", "open", "mixed"])
@@ -212,17 +256,17 @@ def an_odd_body(rng, route):
     names = list(NEEDED[route]) + OPTIONAL_OF[route]
     if way >= 8:
         for name in rng.sample(names, min(len(names), rng.choice([1, 1, 2]))):
-            body[name] = rng.choice(AT_THE_LIMITS[name].split())
+            body[name] = rng.choice(limits(route, name))
     elif way == 0:
         return rng.choice([*ODD_VALUES, nested(rng)]).encode()
     if way == 1:
         del body[rng.choice(list(body))]
     elif way == 2:
         body[rng.choice(ODD_NAMES)] = rng.choice(["0", "[1]", *ODD_VALUES])
-    elif way == 3 and route == "interactions":
-        good = '{"user":1,"post":2,"kind":"click"}'
-        elements = [rng.choice([good, rng.choice(ODD_ITEMS)]) for _ in range(rng.randint(1, 5))]
-        body["items"] = "[" + ",".join(elements) + "]"
+    elif way in (3, 5) and route in ODD_ELEMENTS:
+        name, good, odd = ODD_ELEMENTS[route]
+        elements = [rng.choice([good, rng.choice(odd)]) for _ in range(rng.randint(1, 5))]
+        body[name] = "[" + ",".join(elements) + "]"
     elif way == 4:
         body[rng.choice(list(body))] = nested(rng)
     else:
@@ -295,7 +339,7 @@ ODD_METHODS = "GET GET POST POST PUT get Post OPTIONS GETS PATCH x!~ DELETE".spl
 ODD_TARGETS = b"""
     / * /none /walk /interactions /subgraph /similar /stats /users /posts ?/stats /stats/ stats
     /users/ /users/1 /users/1/ /users//1 /users/1/2 //users/1 /users/abc /users/+1 /users/-1 users/1
-    /users/1a /users/0x1 /users/%31 /users/{id} /posts/* /users/1.0 /USERS/1 /Stats /walk/ /walk?
+    /users/1a /users/0x1 /counts /users/%31 /users/{id} /posts/* /users/1.0 /USERS/1 /Stats /walk/ /walk?
     /posts/9223372036854775807 /posts/9223372036854775808 /posts/18446744073709551616 /userss/1
     http://127.0.0.1/stats /walk/1 /interactions/ /count /log/1 /stats#x /userz
     /users/1?/2 /users/?1
@@ -514,7 +558,7 @@ def each_limit(rng, route):
     needed = {name: value(rng) for name, value in NEEDED[route].items()}
     good = {name: json.dumps(value) for name, value in needed.items()}
     for name in [*good, *OPTIONAL_OF[route]]:
-        for limit in AT_THE_LIMITS[name].split():
+        for limit in limits(route, name):
             members = [f'"{n}":{value}' for n, value in {**good, name: limit}.items()]
             body = "{" + ",".join(members) + "}"
             yield a_message(rng, "POST", b"/" + route.encode(), body.encode())

@@ -8,14 +8,14 @@ use Rattle.gj_reply.specs.Arrays.{array, ranked_text, score_text, edge_text}
 use Rattle.gj_reply.specs.declared.edge.EdgeOf.{EdgeOf}
 use Rattle.gj_reply.specs.declared.reply.KindCounts.{KindCounts}
 use Rattle.gj_reply.specs.declared.reply.Reply.{Reply}
-use Rattle.gj_reply.specs.declared.reply.Reply.TheVariants.{Posted, Full, Behind, Store, Apart, Walk, Subgraph, Similar, User, Post, Stats, BadJson, BadField, BadRange, NoRoute, OnlyGet, OnlyPost, BadHead, HeadLong, Coded, BadLength, BodyLong}
+use Rattle.gj_reply.specs.declared.reply.Reply.TheVariants.{Posted, Full, Behind, Store, Apart, Walk, Subgraph, Similar, Count, User, Post, Stats, BadJson, BadField, BadRange, NoRoute, OnlyGet, OnlyPost, BadHead, HeadLong, Coded, BadLength, BodyLong}
 use Rattle.gj_similar.specs.Scored.{Scored}
 
 -- the body of a post
 abbrev pub posted_text : ℕ → ℕ → List ℕ
 posted_text from length = codes "{\"from\":" ++ decimal from ++ codes ",\"length\":" ++ decimal length ++ codes "}"
 
--- the body of a ranking, by visits or by units
+-- the body of a ranking, by visits, by units or by weight
 abbrev pub ranking_text : List ℕ → ℕ → List Ranked → List ℕ
 ranking_text measure length results =
     codes "{\"length\":" ++ decimal length ++ codes ",\"results\":" ++ array (map (ranked_text measure) results)
@@ -61,6 +61,7 @@ body_of (Posted from length) = posted_text from length
 body_of (Walk length results) = ranking_text (codes ",\"visits\":") length results
 body_of (Subgraph length results) = ranking_text (codes ",\"units\":") length results
 body_of (Similar length results) = similar_text length results
+body_of (Count length results) = ranking_text (codes ",\"weight\":") length results
 body_of (User length id degree recent) =
     vertex_text (codes ",\"user\":") (codes "{\"post\":") length id degree recent
 body_of (Post length id degree recent) =

@@ -1,6 +1,6 @@
 -- The status of each reply. Own: which status a refusal has.
 use Rattle.gj_reply.specs.declared.reply.Reply.{Reply}
-use Rattle.gj_reply.specs.declared.reply.Reply.TheVariants.{Posted, Full, Behind, Store, Apart, Walk, Subgraph, Similar, User, Post, Stats, BadJson, BadField, BadRange, NoRoute, OnlyGet, OnlyPost, BadHead, HeadLong, Coded, BadLength, BodyLong}
+use Rattle.gj_reply.specs.declared.reply.Reply.TheVariants.{Posted, Full, Behind, Store, Apart, Walk, Subgraph, Similar, Count, User, Post, Stats, BadJson, BadField, BadRange, NoRoute, OnlyGet, OnlyPost, BadHead, HeadLong, Coded, BadLength, BodyLong}
 use Rattle.gj_reply.specs.declared.status.Status.{Status}
 use Rattle.gj_reply.specs.declared.status.Status.TheVariants.{Ok as Answered, BadRequest, NotFound, OnlyGet as MethodGet, OnlyPost as MethodPost, Conflict, TooLarge, HeadLong as HeadTooLong, NotImplemented, Unavailable}
 
@@ -10,6 +10,7 @@ status_of (Posted from length) = Answered
 status_of (Walk length results) = Answered
 status_of (Subgraph length results) = Answered
 status_of (Similar length results) = Answered
+status_of (Count length results) = Answered
 status_of (User length id degree recent) = Answered
 status_of (Post length id degree recent) = Answered
 status_of (Stats length base conf kinds) = Answered

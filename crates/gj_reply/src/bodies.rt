@@ -176,6 +176,12 @@ pub(crate) fn put_reply(out: &mut Vec<u8>, reply: &Reply) -> Result<(), Memory>
             results.as_slice(),
         ),
         Reply::Similar { length, results } => put_similar(out, *length, results.as_slice()),
+        Reply::Count { length, results } => put_ranking_of(
+            out,
+            ",\"weight\":",
+            *length,
+            results.as_slice(),
+        ),
         Reply::User {
             length,
             id,

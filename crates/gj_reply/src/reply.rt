@@ -56,6 +56,11 @@ pub enum Reply {
         length: u64,
         results: ScoreList,
     },
+    /// The posts of a count by their weights, the first first.
+    Count {
+        length: u64,
+        results: RankedList,
+    },
     /// A user's degree over all kinds and moments, and the latest interactions, newest first.
     User {
         length: u64,

@@ -6,9 +6,9 @@ use gj_proof::Ranked;
 /// No less than the body's length: the pieces that it is put together from, and 20 digits for each number.
 pub(crate) fn room_for(reply: &Reply) -> usize {
     match reply {
-        Reply::Walk { results, .. } | Reply::Subgraph { results, .. } => {
-            room_for_ranking(results.as_slice())
-        }
+        Reply::Walk { results, .. }
+        | Reply::Subgraph { results, .. }
+        | Reply::Count { results, .. } => room_for_ranking(results.as_slice()),
         Reply::Similar { results, .. } => FRAME.saturating_add(
             results.len().saturating_mul(MEMBER),
         ),

@@ -82,6 +82,19 @@ fn a_walk_has_visits_and_a_subgraph_units(rt: HostRuntime) -> Result<(), Fail> {
 }
 
 #[test]
+fn a_count_has_weights(rt: HostRuntime) -> Result<(), Fail> {
+    let count = Reply::Count {
+        length: 2,
+        results: ranking(rt.alloc())?,
+    };
+    let body =
+        "{\"length\":2,\"results\":[{\"post\":10,\"weight\":3,\"proof\":[1,9223372036854775807]},\
+        {\"post\":0,\"weight\":1,\"proof\":[]}]}";
+    expect_text(&rt, rt.alloc(), &count, Status::Ok, body);
+    Ok(())
+}
+
+#[test]
 fn a_similar_post_has_its_co_visits_and_its_degree(rt: HostRuntime) -> Result<(), Fail> {
     let mut results = ScoreList::new(rt.alloc());
     results.push(Score {

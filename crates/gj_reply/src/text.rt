@@ -49,6 +49,7 @@ fn status_for(reply: &Reply) -> Status
         | Reply::Walk { .. }
         | Reply::Subgraph { .. }
         | Reply::Similar { .. }
+        | Reply::Count { .. }
         | Reply::User { .. }
         | Reply::Post { .. }
         | Reply::Stats { .. } => Status::Ok,

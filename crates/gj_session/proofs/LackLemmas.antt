@@ -12,8 +12,9 @@ use Rattle.gj_http.specs.Routes.{found_of}
 use Rattle.gj_http.specs.declared.found.RouteError.{RouteError}
 use Rattle.gj_reply.specs.declared.fixed.Fixed.{Fixed}
 use Rattle.gj_reply.specs.declared.fixed.Fixed.TheVariants.{Memory, NotAccepted}
+use Rattle.gj_request.specs.Counts.{count_rows}
 use Rattle.gj_request.specs.Forms.{Content}
-use Rattle.gj_request.specs.Requests.{asked, parsed, tree_of, path_id, walk_of, subgraph_of, similar_of}
+use Rattle.gj_request.specs.Requests.{asked, parsed, tree_of, path_id, walk_of, subgraph_of, similar_of, count_of}
 use Rattle.gj_request.specs.Results.{◌>>=◌}
 use Rattle.gj_request.specs.Tables.{Row, Builder, field, filled, object_of, read_by, walk_rows, subgraph_rows, similar_rows}
 use Rattle.gj_request.specs.declared.name.Name.{Name}
@@ -62,6 +63,10 @@ sim_query : (value : _) (ask : Ask) → similar_of value ≡ Ok ask → IsQuery 
 unfolding similar_of
 sim_query value ask e = of_table IsQuery similar_rows _ Body value ask (λ post steps seed kinds top since not_before. tt) e
 
+count_query : (value : _) (ask : Ask) → count_of value ≡ Ok ask → IsQuery ask
+unfolding count_of
+count_query value ask e = of_table IsQuery count_rows _ Body value ask (λ seeds kinds least top proof since not_before. tt) e
+
 vertex_query : (id : Result ℕ Reason) (of : ℕ → query.Query) (ask : Ask) → id >>= (λ n. Ok (Query (of n))) ≡ Ok ask → IsQuery ask
 vertex_query (Ok n) of ask e = (let same : Query (of n) ≡ ask = cc in subst IsQuery same tt)
 vertex_query (Err why) of ask e = cc
@@ -81,6 +86,7 @@ asked_lacks routes.Interactions id body ask e = posts_lack ask
 asked_lacks routes.Walk id body ask e = query_lacks ask Memory (of_body IsQuery (tree_of body) walk_of ask (λ value. walk_query value ask) e)
 asked_lacks routes.Subgraph id body ask e = query_lacks ask Memory (of_body IsQuery (tree_of body) subgraph_of ask (λ value. sub_query value ask) e)
 asked_lacks routes.Similar id body ask e = query_lacks ask Memory (of_body IsQuery (tree_of body) similar_of ask (λ value. sim_query value ask) e)
+asked_lacks routes.Count id body ask e = query_lacks ask Memory (of_body IsQuery (tree_of body) count_of ask (λ value. count_query value ask) e)
 asked_lacks routes.User id body ask e = query_lacks ask Memory (vertex_query (path_id id) queries.User ask e)
 asked_lacks routes.Post id body ask e = query_lacks ask Memory (vertex_query (path_id id) queries.Post ask e)
 asked_lacks routes.Stats id body ask e = (let same : Query queries.Stats ≡ ask = cc in query_lacks ask Memory (subst IsQuery same tt))

@@ -82,6 +82,7 @@ pub kind_status : (query : Query) (w : Shown) → status_of (kind_reply query w)
 kind_status (queries.Walk ask) w = refl
 kind_status (queries.Sub ask) w = refl
 kind_status (queries.Sim ask) w = refl
+kind_status (queries.Count ask) w = refl
 kind_status (queries.User id) w = refl
 kind_status (queries.Post id) w = refl
 kind_status queries.Stats w = refl

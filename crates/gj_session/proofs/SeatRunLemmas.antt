@@ -47,6 +47,7 @@ says_enters seat a batch (replies.Behind n) b x = absurd x
 says_enters seat a batch (replies.Walk n r) b x = absurd x
 says_enters seat a batch (replies.Subgraph n r) b x = absurd x
 says_enters seat a batch (replies.Similar n r) b x = absurd x
+says_enters seat a batch (replies.Count n r) b x = absurd x
 says_enters seat a batch (replies.User n id d r) b x = absurd x
 says_enters seat a batch (replies.Post n id d r) b x = absurd x
 says_enters seat a batch (replies.Stats n base c k) b x = absurd x

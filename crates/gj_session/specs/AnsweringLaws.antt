@@ -74,6 +74,7 @@ says_stands alone seat a batch (replies.Behind n) b x = absurd x
 says_stands alone seat a batch (replies.Walk n r) b x = absurd x
 says_stands alone seat a batch (replies.Subgraph n r) b x = absurd x
 says_stands alone seat a batch (replies.Similar n r) b x = absurd x
+says_stands alone seat a batch (replies.Count n r) b x = absurd x
 says_stands alone seat a batch (replies.User n id d r) b x = absurd x
 says_stands alone seat a batch (replies.Post n id d r) b x = absurd x
 says_stands alone seat a batch (replies.Stats n base c k) b x = absurd x
@@ -117,6 +118,7 @@ uncounts_reply (replies.Behind n) is = record { store = refl; full = refl; apart
 uncounts_reply (replies.Walk n r) is = record { store = refl; full = refl; apart = refl; no_look = refl }
 uncounts_reply (replies.Subgraph n r) is = record { store = refl; full = refl; apart = refl; no_look = refl }
 uncounts_reply (replies.Similar n r) is = record { store = refl; full = refl; apart = refl; no_look = refl }
+uncounts_reply (replies.Count n r) is = record { store = refl; full = refl; apart = refl; no_look = refl }
 uncounts_reply (replies.User n id d r) is = record { store = refl; full = refl; apart = refl; no_look = refl }
 uncounts_reply (replies.Post n id d r) is = record { store = refl; full = refl; apart = refl; no_look = refl }
 uncounts_reply (replies.Stats n b c k) is = record { store = refl; full = refl; apart = refl; no_look = refl }

@@ -77,6 +77,7 @@ stands_counts a b batch (Says (replies.Behind n)) x = record { looks = x.looks; 
 stands_counts a b batch (Says (replies.Walk n r)) x = record { looks = x.looks; refused = x.refused; store = x.store; full = x.full; apart = x.apart }
 stands_counts a b batch (Says (replies.Subgraph n r)) x = record { looks = x.looks; refused = x.refused; store = x.store; full = x.full; apart = x.apart }
 stands_counts a b batch (Says (replies.Similar n r)) x = record { looks = x.looks; refused = x.refused; store = x.store; full = x.full; apart = x.apart }
+stands_counts a b batch (Says (replies.Count n r)) x = record { looks = x.looks; refused = x.refused; store = x.store; full = x.full; apart = x.apart }
 stands_counts a b batch (Says (replies.User n id d r)) x = record { looks = x.looks; refused = x.refused; store = x.store; full = x.full; apart = x.apart }
 stands_counts a b batch (Says (replies.Post n id d r)) x = record { looks = x.looks; refused = x.refused; store = x.store; full = x.full; apart = x.apart }
 stands_counts a b batch (Says (replies.Stats n base c k)) x = record { looks = x.looks; refused = x.refused; store = x.store; full = x.full; apart = x.apart }

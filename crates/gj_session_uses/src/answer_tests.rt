@@ -1,7 +1,8 @@
 ghost use Rattle.std.specs.Prelude.{◌≡◌, ◌<◌, [], ◌∷◌, IfOk};
 
 use gj_base::{
-    Conf, Graph, Grow, IdList, Item, Kind, ListGraph, Mask, Memory, Query, SimAsk, SubAsk, WalkAsk,
+    Conf, CountAsk, Graph, Grow, IdList, Item, Kind, KindLeast, ListGraph, Mask, Memory, Query,
+    SimAsk, SubAsk, WalkAsk,
 };
 use gj_reply::{Reply, Text, write_reply};
 use gj_session::answer_on;
@@ -95,6 +96,38 @@ fn sim(seed: u64, since: u64) -> Query
     })
 }
 
+fn two(alloc: Global, first: u64, second: u64) -> Result<IdList, Memory>
+    ensures { IfOk result (λ both. both ≡ first ∷ second ∷ []) }
+{
+    let mut both = IdList::new(alloc);
+    both.push(first)?;
+    both.push(second)?;
+    Ok(both)
+}
+
+/// The count of user 1, who weighs 3, and user 2, who weighs 5, with this many clicks at least.
+fn count(alloc: Global, click: u32, since: u64) -> Result<Query, Memory>
+    requires click { click < 100 }
+    requires since { since < 100 }
+{
+    let least = KindLeast {
+        click,
+        favorite: 0,
+        retweet: 0,
+        reply: 0,
+        tweet: 0,
+    };
+    Ok(Query::Count(CountAsk {
+        seeds: two(alloc, 1, 2)?,
+        weights: two(alloc, 3, 5)?,
+        mask: Mask::all(),
+        least,
+        top: 10,
+        proof: 3,
+        since,
+    }))
+}
+
 #[test]
 fn a_segment_leaves_the_answers_after_the_full_window(rt: HostRuntime) -> Result<(), Fail> {
     let mut graph = empty_graph(&rt, rt.alloc())?;
@@ -133,7 +166,8 @@ fn a_query_is_behind_above_the_length_alone(rt: HostRuntime) -> Result<(), Fail>
         alone.as_slice(),
         b"{\"length\":1,\"results\":[]}".as_slice()
     );
-    for query in [walk(rt.alloc(), 2)?, sub(rt.alloc(), 2)?, sim(5, 2)] {
+    let counted = count(rt.alloc(), 0, 2)?;
+    for query in [walk(rt.alloc(), 2)?, sub(rt.alloc(), 2)?, sim(5, 2), counted] {
         let behind = body_of(rt.alloc(), &graph, &query)?;
         assert_eq!(rt;
             behind.as_slice(),
@@ -161,6 +195,26 @@ fn similar_posts_are_answered(rt: HostRuntime) -> Result<(), Fail> {
     ] {
         let body = body_of(rt.alloc(), &graph, &sim(seed, 0))?;
         assert_eq!(rt; body.as_slice(), results, "seed {seed}");
+    }
+    Ok(())
+}
+
+#[test]
+fn counted_posts_have_the_weights_of_their_seeds(rt: HostRuntime) -> Result<(), Fail> {
+    let mut graph = empty_graph(&rt, rt.alloc())?;
+    let items = [
+        item(1, 10, Kind::Click),
+        item(1, 20, Kind::Click),
+        item(2, 20, Kind::Click),
+    ];
+    add(&rt, &mut graph, &items);
+    for (click, results) in [
+        (0, b"{\"length\":3,\"results\":[{\"post\":20,\"weight\":8,\"proof\":[1,2]},{\"post\":10,\"weight\":3,\"proof\":[1]}]}".as_slice()),
+        (2, b"{\"length\":3,\"results\":[{\"post\":20,\"weight\":8,\"proof\":[1,2]}]}".as_slice()),
+        (3, b"{\"length\":3,\"results\":[]}".as_slice()),
+    ] {
+        let body = body_of(rt.alloc(), &graph, &count(rt.alloc(), click, 0)?)?;
+        assert_eq!(rt; body.as_slice(), results, "{click} clicks at least");
     }
     Ok(())
 }
