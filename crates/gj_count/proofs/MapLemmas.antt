@@ -1,5 +1,5 @@
 -- The weights that are put from a map, entry by entry.
-use Rattle.std.proofs.Common.{◌≡◌, ℕ, ◌+◌, ◌<◌, ◌≤◌, ◌==◌, ◌∙◌, Bool, true, false, cond, nat_eq, nat_lt, List, [], ◌∷◌, Some, None, unwrap_or, refl, sym, ap, arith, ⊎_elim}
+use Rattle.std.proofs.Common.{◌≡◌, ℕ, ◌+◌, ◌≤◌, ◌==◌, ◌∙◌, true, false, cond, nat_eq, nat_lt, List, ◌∷◌, Some, unwrap_or, refl, sym, ap, arith, ⊎_elim}
 use Rattle.std.specs.Cmp.{nat_eq_equiv}
 use Rattle.std.specs.List.{IsDistinct}
 use Rattle.std.specs.Map.{lookup, keys_of}

@@ -1,5 +1,5 @@
 -- Sums over seeds: what the ends of a seed add, and that they add once.
-use Rattle.std.proofs.Common.{◌≡◌, ℕ, ◌+◌, ◌*◌, ◌<◌, ◌≤◌, ◌==◌, ◌∙◌, ◌&&◌, ◌||◌, Bool, true, false, cond, List, [], ◌∷◌, length, take, get_or, fold, zip, sum_by, count_by, slice_get, Some, IsTrue, nat_le, refl, sym, ap, arith, ⊎_elim}
+use Rattle.std.proofs.Common.{◌≡◌, ℕ, ◌+◌, ◌<◌, ◌≤◌, ◌==◌, ◌∙◌, ◌&&◌, ◌||◌, Bool, true, false, cond, List, [], ◌∷◌, length, take, get_or, fold, zip, sum_by, slice_get, Some, IsTrue, nat_le, refl, sym, ap, arith, ⊎_elim}
 use Rattle.std.specs.List.{list_any}
 use Rattle.std.proofs.lemmas.Bool.{eq-eqb, ne_eqb, leb-true, and_parts, cases_eq}
 use Rattle.std.proofs.lemmas.List.Sums.{fold_more, sum_by_more, AllPass-from_list_all}
@@ -13,7 +13,7 @@ use Rattle.gj_base.specs.declared.kind.Kind.{Kind}
 use Rattle.gj_base.specs.declared.kind.Kind.TheVariants.{Click, Favorite, Retweet, Reply, Tweet}
 use Rattle.gj_base.specs.declared.mask.Mask.{Mask}
 use Rattle.gj_base.specs.declared.side.Side.TheVariants.{User}
-use Rattle.gj_count.specs.Sums.{with_seed, with_kind, with_end, with_ends, kind_sum, IsWithin, AreWithin, AreSums}
+use Rattle.gj_count.specs.Sums.{with_seed, with_end, with_ends, kind_sum, IsWithin, AreWithin, AreSums}
 use Rattle.gj_count.specs.Weights.{met, met_by}
 use Rattle.gj_count.specs.declared.seed_sum.SeedSum.{SeedSum}
 use Rattle.gj_count.specs.declared.post_sums.PostSums.{PostSums}
@@ -101,20 +101,20 @@ later turn s within = record { last = omega arith; total = within.total }
 -- what is within a turn is within the next
 pub within_next : (turn : ℕ) (s : PostSums) → AreWithin turn s → AreWithin (turn + 1) s
 within_next turn s within = record {
-    weight = later turn s.weight within.weight;
-    click = later turn s.click within.click;
-    favorite = later turn s.favorite within.favorite;
-    retweet = later turn s.retweet within.retweet;
-    reply = later turn s.reply within.reply;
-    tweet = later turn s.tweet within.tweet;
-  }
+  weight = later turn s.weight within.weight;
+  click = later turn s.click within.click;
+  favorite = later turn s.favorite within.favorite;
+  retweet = later turn s.retweet within.retweet;
+  reply = later turn s.reply within.reply;
+  tweet = later turn s.tweet within.tweet;
+}
 
 -- the sums of a post, after one more seed
-pub sums_more : (items : List Item) (mask : Mask) (seeds weights : List ℕ) (i post : ℕ) (s : PostSums)
-    → i < length seeds → i < length weights → AreWithin i s → AreSums items mask (take i seeds) (take i (zip seeds weights)) post s
-    → AreSums items mask (take (i + 1) seeds) (take (i + 1) (zip seeds weights)) post
-    (with_ends (ends items User (get_or seeds i 0) mask) (i + 1) (get_or weights i 0) post s)
-sums_more items mask seeds weights i post s one two within sums =
+pub sums_more : (items : List Item) (mask : Mask) (seeds weights : List ℕ) (i post : ℕ) (old new : PostSums)
+    → i < length seeds → i < length weights → AreWithin i old → AreSums items mask (take i seeds) (take i (zip seeds weights)) post old
+    → new ≡ with_ends (ends items User (get_or seeds i 0) mask) (i + 1) (get_or weights i 0) post old
+    → AreSums items mask (take (i + 1) seeds) (take (i + 1) (zip seeds weights)) post new
+sums_more items mask seeds weights i post old new one two within sums is =
     let seed = get_or seeds i 0 in
     let weight = get_or weights i 0 in
     let found = ends items User seed mask in
@@ -124,26 +124,29 @@ sums_more items mask seeds weights i post s one two within sums =
     let pair : get_or pairs i (0, 0) ≡ (seed, weight) = get_or-zip seeds weights i (0, 0) one two in
     record {
       weight =
-      ap (λ x. x.total) (weight_with_ends found (i + 1) weight post s)
-      ∙ (fed_total (i + 1) weight i (met items mask post seed) s.weight within.weight.last refl
-      ∙ (ap (λ n. n + value (seed, weight)) sums.weight
-      ∙ sym (sum_by_more value pairs i (0, 0) both ∙ ap (λ p. sum_by value (take i pairs) + value p) pair)));
+          ap (λ s. s.weight.total) is
+          ∙ (ap (λ s. s.total) (weight_with_ends found (i + 1) weight post old)
+          ∙ (fed_total (i + 1) weight i (met items mask post seed) old.weight within.weight.last refl
+          ∙ (ap (λ n. n + value (seed, weight)) sums.weight
+          ∙ sym (sum_by_more value pairs i (0, 0) both ∙ ap (λ p. sum_by value (take i pairs) + value p) pair))));
       kinds = λ kind.
-      let counted : ℕ → Bool = met_by items mask post kind in
-      ap (λ x. x.total) (kind_with_ends found (i + 1) weight post s kind)
-      ∙ (fed_total (i + 1) 1 i (counted seed) (kind_sum s kind) (kind_within i s within kind).last refl
-      ∙ (ap (λ n. n + cond (counted seed) 1 0) (sums.kinds kind)
-      ∙ sym (sum_by_more (λ x. cond (counted x) 1 0) seeds i 0 one)));
+          let counted : ℕ → Bool = met_by items mask post kind in
+          ap (λ s. (kind_sum s kind).total) is
+          ∙ (ap (λ s. s.total) (kind_with_ends found (i + 1) weight post old kind)
+          ∙ (fed_total (i + 1) 1 i (counted seed) (kind_sum old kind) (kind_within i old within kind).last refl
+          ∙ (ap (λ n. n + cond (counted seed) 1 0) (sums.kinds kind)
+          ∙ sym (sum_by_more (λ x. cond (counted x) 1 0) seeds i 0 one))));
     }
 
 -- ---- one more end
 
-pub ends_more : (found : List (ℕ × Kind)) (i : ℕ) (end : ℕ × Kind) (turn weight post : ℕ) (s : PostSums) → slice_get found i ≡ Some end
-    → with_ends (take (i + 1) found) turn weight post s
-    ≡ cond (end.0 == post) (with_end turn weight (with_ends (take i found) turn weight post s) end.1) (with_ends (take i found) turn weight post s)
-ends_more found i end turn weight post s is =
-    let step : PostSums → ℕ × Kind → PostSums = λ t e. cond (e.0 == post) (with_end turn weight t e.1) t in
-    fold_more step s found i end (slice_get_within found i end is) ∙ ap (step (with_ends (take i found) turn weight post s)) (get_or_from_slice_get found i end end is)
+pub ends_more : (found : List (ℕ × Kind)) (i : ℕ) (end : ℕ × Kind) (turn weight post : ℕ) (from old new : PostSums) → slice_get found i ≡ Some end
+    → old ≡ with_ends (take i found) turn weight post from → new ≡ cond (end.0 == post) (with_end turn weight old end.1) old
+    → new ≡ with_ends (take (i + 1) found) turn weight post from
+ends_more found i end turn weight post from old new is was step =
+    let one : PostSums → ℕ × Kind → PostSums = λ t e. cond (e.0 == post) (with_end turn weight t e.1) t in
+    step ∙ (ap (λ t. one t end) was
+    ∙ sym (fold_more one from found i end (slice_get_within found i end is) ∙ ap (one (with_ends (take i found) turn weight post from)) (get_or_from_slice_get found i end end is)))
 
 -- ---- the ask's weights
 

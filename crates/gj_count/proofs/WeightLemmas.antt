@@ -1,7 +1,7 @@
 -- The weights of a window are determined by their numbers.
-use Rattle.std.proofs.Common.{◌≡◌, ℕ, zero, suc, ◌+◌, ◌*◌, ◌<◌, ◌≤◌, ◌==◌, ◌∙◌, ◌&&◌, ◌||◌, Bool, true, false, cond, nat_le, List, [], ◌∷◌, All, length, get_or, map, filter, fold, zip, sum_by, count_by, refl, sym, ap, arith, ⊎_elim}
+use Rattle.std.proofs.Common.{◌≡◌, ℕ, ◌<◌, ◌≤◌, ◌==◌, ◌∙◌, ◌&&◌, ◌||◌, Bool, true, false, cond, nat_le, List, [], ◌∷◌, All, get_or, map, filter, fold, zip, sum_by, refl, sym, ap, arith, ⊎_elim}
 use Rattle.std.specs.List.{list_any}
-use Rattle.std.proofs.lemmas.Bool.{eq-eqb, ne_eqb, eqb-true, leb-true, leb-false, le-leb, and_parts, or_parts, or_from, cond-true, cond-false, cases_eq, cases_Bool}
+use Rattle.std.proofs.lemmas.Bool.{eq-eqb, ne_eqb, leb-true, leb-false, and_parts, or_parts, or_from, cond-true, cond-false, cases_eq, cases_Bool}
 use Rattle.std.proofs.lemmas.List.Sums.{sum_by-cons}
 use Rattle.gj_base.specs.Asks.{CountQuery, Least}
 use Rattle.gj_base.specs.Ends.{ends, end_across, is_eligible}
@@ -11,8 +11,8 @@ use Rattle.gj_base.specs.declared.kind.Kind.TheVariants.{Click, Favorite, Retwee
 use Rattle.gj_base.specs.declared.mask.Mask.{Mask}
 use Rattle.gj_base.specs.declared.side.Side.TheVariants.{User}
 use Rattle.gj_base.proofs.TallyLemmas.{number_at-with_number, is_tally-with_number, number_at-pair, same_pairs}
-use Rattle.gj_count.specs.Sums.{has_least, weight_in, IsWithin, AreWithin, AreSums, AreWeights}
-use Rattle.gj_count.specs.Weights.{met, support, is_supported, weight_of, with_weight, weights_of}
+use Rattle.gj_count.specs.Sums.{has_least, weight_in, AreWithin, AreSums, AreWeights}
+use Rattle.gj_count.specs.Weights.{met, support, is_supported, weight_of, weights_of}
 use Rattle.gj_count.specs.declared.post_sums.PostSums.{PostSums}
 
 -- ---- what is put post by post
@@ -49,6 +49,7 @@ number_at-put shows number pairs x p =
         → number_at (cond b (with_number pairs x (number x)) pairs) p ≡ cond b n (number_at pairs p)
     choose true n is = is
     choose false n is = refl
+
     both : (b : Bool) (n : ℕ) → cond b n n ≡ n
     both true n = refl
     both false n = refl

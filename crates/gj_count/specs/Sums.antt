@@ -36,13 +36,13 @@ with_kind turn of s kind = if same_kind of kind then with_seed s turn 1 else s
 -- the sums of a post after an end of the seed of this turn, which has this weight
 abbrev pub with_end : ℕ → ℕ → PostSums → Kind → PostSums
 with_end turn weight s kind = record {
-    weight = with_seed s.weight turn weight;
-    click = with_kind turn Click s.click kind;
-    favorite = with_kind turn Favorite s.favorite kind;
-    retweet = with_kind turn Retweet s.retweet kind;
-    reply = with_kind turn Reply s.reply kind;
-    tweet = with_kind turn Tweet s.tweet kind;
-  }
+  weight = with_seed s.weight turn weight;
+  click = with_kind turn Click s.click kind;
+  favorite = with_kind turn Favorite s.favorite kind;
+  retweet = with_kind turn Retweet s.retweet kind;
+  reply = with_kind turn Reply s.reply kind;
+  tweet = with_kind turn Tweet s.tweet kind;
+}
 
 -- the seeds up to this turn have added to each of the sums
 pub record AreWithin (turn : ℕ) (s : PostSums) : Type 0 where

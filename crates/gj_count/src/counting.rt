@@ -1,5 +1,5 @@
 //! The weights of posts.
-ghost use Rattle.std.specs.Prelude.{◌≡◌, ◌<◌, ◌≤◌, ◌==◌, nat_lt, ℕ,  if◌then◌else◌, zip, length, ◌*◌, All, IsTrue, IfOk, OnOk};
+ghost use Rattle.std.specs.Prelude.{◌≡◌, ◌<◌, ◌≤◌, ◌==◌, nat_lt, ℕ, if◌then◌else◌, zip, length, ◌*◌, All, IsTrue, IfOk, OnOk};
 ghost use Rattle.gj_base.specs.declared.side.Side.TheVariants as sides;
 ghost use Rattle.gj_base.specs.Asks.{are_weights};
 ghost use Rattle.gj_base.specs.Ends.{ends};
@@ -15,17 +15,11 @@ use std::collections::HashMap;
 /// The weights of posts.
 pub type Weights = Tally;
 
-/// The sums of posts that a seed was met at.
+/// The sums of the posts that the seeds lead to.
 type Sums = HashMap<u64, PostSums>;
 
 /// Adds an end of the seed of this turn, which has this weight.
-fn add_end(
-    sums: &mut Sums,
-    post: u64,
-    kind: Kind,
-    turn: u64,
-    weight: u64,
-) -> Result<(), Memory>
+fn add_end(sums: &mut Sums, post: u64, kind: Kind, turn: u64, weight: u64) -> Result<(), Memory>
     requires turn { turn ≤ 1000 }
     requires weight { weight ≤ 1000000 }
     requires within { (p : ℕ) → AreWithin turn (sums_at sums.old p) }
@@ -62,7 +56,8 @@ fn add_seed<G: Graph>(
     Ok(())
 }
 
-/// The sums of the posts that the seeds lead to: one call of the graph a seed, and one an edge.
+/// The sums of the posts that the seeds lead to.
+#[tactic(auto, using(crate::proofs::SumLemmas::weight_in_range))]
 fn sums_of<G: Graph>(
     alloc: Global,
     graph: &G,
@@ -110,11 +105,19 @@ fn weights_in(alloc: Global, sums: &Sums, least: KindLeast) -> Result<Weights, M
     Ok(weights)
 }
 
-/// The weights of the posts of the graph's window.
+/// The weights of the posts of the graph's window: of each post that enough of the ask's seeds interacted with, kind by
+/// kind, the sum of the weights of the seeds that did. It calls the graph once a seed and once for each of its ends, and
+/// takes memory for each distinct post among them.
 pub fn count_second<G: Graph>(alloc: Global, graph: &G, ask: &CountAsk) -> Result<Weights, Memory>
     ensures exact { IfOk result (λ weights. weights ≡ weights_of (G.shown graph.now).items ask.now) }
     ensures in_range { IfOk result (λ weights. All (λ pair. pair.1 ≤ MAX_SEEDS * MAX_WEIGHT) weights) }
 {
-    let sums = sums_of(alloc, graph, ask.mask, ask.seeds.as_slice(), ask.weights.as_slice())?;
+    let sums = sums_of(
+        alloc,
+        graph,
+        ask.mask,
+        ask.seeds.as_slice(),
+        ask.weights.as_slice(),
+    )?;
     weights_in(alloc, &sums, ask.least)
 }

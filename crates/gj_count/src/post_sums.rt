@@ -6,7 +6,7 @@ use crate::seed_sum::SeedSum;
 use gj_base::{Kind, KindLeast};
 
 /// What the seeds add to a post: the sum of their weights, and how many there are of each kind.
-#[derive(Clone, Copy, Debug, PartialEq, Eq)]
+#[derive(Clone, Copy)]
 pub struct PostSums {
     pub weight: SeedSum,
     pub click: SeedSum,

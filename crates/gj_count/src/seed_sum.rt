@@ -3,7 +3,7 @@ ghost use Rattle.std.specs.Prelude.{◌≡◌, ◌≤◌};
 ghost use Rattle.gj_count.specs.Sums.{no_sum, with_seed, IsWithin};
 
 /// A sum to which each seed adds once, however often it is met. Seeds come in turns, which are counted from 1.
-#[derive(Clone, Copy, Debug, PartialEq, Eq)]
+#[derive(Clone, Copy)]
 pub struct SeedSum {
     pub total: u64,
     /// The turn of the last seed that added; 0 where none did.

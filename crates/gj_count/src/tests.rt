@@ -1,7 +1,9 @@
 ghost use Rattle.std.specs.Prelude.{◌≡◌, ◌∷◌, [], IfOk};
 
 use crate::{Weights, count_second};
-use gj_base::{Conf, CountAsk, Graph, Grow, IdList, Item, Kind, KindLeast, ListGraph, Mask, Memory};
+use gj_base::{
+    Conf, CountAsk, Graph, Grow, IdList, Item, Kind, KindLeast, ListGraph, Mask, Memory,
+};
 use std::alloc::Global;
 use std::process::Abort;
 use std::test::Fail;
@@ -124,8 +126,7 @@ fn plain_weight(graph: &ListGraph, ask: &CountAsk, post: u64) -> u64 {
     sum
 }
 
-fn next(state: &mut u64, below: u64) -> u64
-{
+fn next(state: &mut u64, below: u64) -> u64 {
     *state = state
         .wrapping_mul(6_364_136_223_846_793_005)
         .wrapping_add(1_442_695_040_888_963_407);
@@ -158,7 +159,11 @@ fn weights_are_those_counted_post_by_post(rt: HostRuntime) -> Result<(), Fail> {
                     let expected = plain_weight(&graph, &ask, post);
                     assert_eq!(rt; weights.get(post), expected, "post {post}");
                 }
-                assert!(rt; weights.pairs().all(|(post, weight)| *post < 8 && *weight > 0));
+                assert!(rt;
+                    weights
+                        .pairs()
+                        .all(|(post, weight)| *post < 8 && *weight > 0)
+                );
             }
         }
     }

@@ -1,4 +1,4 @@
-use Rattle.std.proofs.Common.{◌≡◌, ◌≤◌, ◌∙◌, ℕ, List, zip, All, ap, sym, subst}
+use Rattle.std.proofs.Common.{◌≡◌, ◌≤◌, ◌∙◌, ℕ, zip, All, ap}
 use Rattle.std.proofs.lemmas.Result.{IfOk-weaker}
 use Rattle.gj_base.specs.Asks.{CountQuery}
 use Rattle.gj_count.specs.Sums.{sums_at, AreSums, AreWeights}

@@ -1,4 +1,4 @@
-use Rattle.std.proofs.Common.{◌≡◌, ◌+◌, ◌∙◌, ℕ, List, [], ◌∷◌, Some, nat_eq, unwrap_or, ap, sym, refl, rules, arith, subst, zero-add}
+use Rattle.std.proofs.Common.{◌≡◌, ◌+◌, ◌∙◌, ℕ, List, [], ◌∷◌, nat_eq, unwrap_or, ap, sym, rules, arith, subst, zero-add}
 use Rattle.std.specs.Cmp.{nat_eq_equiv}
 use Rattle.std.specs.HashMap.{IsUnique}
 use Rattle.std.specs.List.{IsDistinct}
