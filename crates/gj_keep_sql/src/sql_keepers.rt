@@ -1,6 +1,7 @@
 //! Where the keeper over a file is found by its path.
 
 use crate::answers::counted;
+use crate::file_keeper::FileKeeper;
 use crate::sql_keeper::SqlKeeper;
 use gj_base::{KeepError, Keepers};
 use sqlite::{Connection, File, FileStore};
@@ -53,7 +54,7 @@ impl<'rt> SqlKeepers<'rt> {
 }
 
 impl<'rt> Keepers for SqlKeepers<'rt> {
-    type Kept = SqlKeeper<FileStore<File>>;
+    type Kept = FileKeeper;
 
     ghost use Rattle.std.specs.Prelude.{false, None, []};
     ghost use Rattle.gj_keep_sql.specs.Stores.{faults_of};
@@ -68,18 +69,14 @@ impl<'rt> Keepers for SqlKeepers<'rt> {
 
     ghost steady = { λ _. false };
 
-    fn keeper_at(
-        &mut self,
-        alloc: Global,
-        path: &str,
-    ) -> Result<SqlKeeper<FileStore<File>>, KeepError> {
+    fn keeper_at(&mut self, alloc: Global, path: &str) -> Result<FileKeeper, KeepError> {
         let mut keeper = self.open(alloc, path)?;
         keeper.go_on_from(self.kept);
         self.home = false;
-        Ok(keeper)
+        Ok(FileKeeper::over(keeper))
     }
 
-    fn take_back(&mut self, kept: SqlKeeper<FileStore<File>>) {
+    fn take_back(&mut self, kept: FileKeeper) {
         self.kept = self.kept.max(kept.close());
         self.home = true;
     }

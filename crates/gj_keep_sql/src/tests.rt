@@ -33,8 +33,8 @@ fn number<F: Alter>(connection: &mut Connection<F>, query: &str) -> Result<i64, 
 }
 
 /// Keeps one interaction at the place.
-fn keep<F: Alter>(
-    keeper: &mut SqlKeeper<F>,
+fn keep(
+    keeper: &mut FileKeeper,
     rt: &impl Abort,
     place: u64,
     user: u64,
@@ -168,8 +168,9 @@ fn a_trim_drops_what_is_below_it(rt: HostRuntime) -> Result<(), Fail> {
     let mut faults = 0;
     let connection = Connection::open_in_memory(alloc)?;
     let mut keeper = SqlKeeper::adopt(alloc, connection, &mut faults)?;
+    let item = Item::make(1, 10, Kind::Click, 0).expect(&rt, "all are in range");
     for place in 0..4 {
-        keep(&mut keeper, &rt, place, place, Kind::Click, 0)?;
+        keeper.append(place, &[item])?;
     }
     for (below, left) in [(0, 4), (3, 1), (2, 1), (MAX_ID, 0)] {
         keeper.trim(below)?;

@@ -25,10 +25,15 @@ use crate::arguments::words_of;
 use crate::devices::{StreamSink, StreamSource};
 use crate::local::{report, run_local};
 use crate::serving::{Ended, run_serve};
+use gj_base::Sink;
 use gj_keep_sql::SqlKeepers;
 use gj_publish::Grants;
 use gj_serve::TcpDoor;
+use std::net::{Net, TcpListener, TcpStream};
 use std::process::ExitCode;
+use std::rt::Clock;
+use std::sync::Wait;
+use std::thread::Threads;
 
 /// Whether the arguments ask for a service.
 fn is_serve(words: &[String]) -> bool {
@@ -38,10 +43,47 @@ fn is_serve(words: &[String]) -> bool {
     }
 }
 
+/// Serves connections of this machine as the arguments ask, over its files.
+fn serve<
+    R: Threads
+        + Wait
+        + Net<Listener = TcpListener, Stream = TcpStream>
+        + Clock
+        + Copy
+        + Drop
+        + Send
+        + Sync,
+    O: Sink,
+    E: Sink,
+>(rt: R, host: &HostRuntime, words: &[String], out: &mut O, err: &mut E) -> u8 {
+    let Ended { status, door: _ } = run_serve(
+        rt,
+        host.alloc(),
+        words,
+        TcpDoor::new(rt),
+        out,
+        err,
+        &mut SqlKeepers::new(host),
+        &mut Grants::new(),
+    );
+    status
+}
+
+/// Replays standard input or makes a workload, as the arguments ask, over files of this machine.
+fn run<O: Sink, E: Sink>(rt: &HostRuntime, words: &[String], out: &mut O, err: &mut E) -> u8 {
+    run_local(
+        rt.alloc(),
+        words,
+        &mut StreamSource::new(rt.stdin()),
+        out,
+        err,
+        &mut SqlKeepers::new(rt),
+    )
+}
+
 fn main(rt: HostRuntime) -> ExitCode {
     let mut out = StreamSink::new(rt.stdout());
     let mut err = StreamSink::new(rt.stderr());
-    let mut stores = SqlKeepers::new(&rt);
     let status = match words_of(&rt) {
         Err(status) => {
             report(&mut err, status);
@@ -49,26 +91,9 @@ fn main(rt: HostRuntime) -> ExitCode {
         }
         Ok(words) => {
             if is_serve(&words) {
-                let Ended { status, door: _ } = run_serve(
-                    &rt,
-                    rt.alloc(),
-                    &words,
-                    TcpDoor::new(&rt),
-                    &mut out,
-                    &mut err,
-                    &mut stores,
-                    &mut Grants::new(),
-                );
-                status
+                serve(&rt, &rt, &words, &mut out, &mut err)
             } else {
-                run_local(
-                    rt.alloc(),
-                    &words,
-                    &mut StreamSource::new(rt.stdin()),
-                    &mut out,
-                    &mut err,
-                    &mut stores,
-                )
+                run(&rt, &words, &mut out, &mut err)
             }
         }
     };
