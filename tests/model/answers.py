@@ -117,8 +117,10 @@ def shared(window, ask):
 
 
 def weights(window, ask):
-    """The sum of the weights of the seed users that interacted with each post, where of each kind at least as many did as
-    the query wants."""
+    """For each post the sum of the weights of the seed users that interacted with it.
+
+    A post that too few of them interacted with by some kind has none.
+    """
     by_kind = defaultdict(set)
     for item in eligible(window, ask):
         if item.user in ask.seeds:

@@ -167,7 +167,12 @@ fn a_query_is_behind_above_the_length_alone(rt: HostRuntime) -> Result<(), Fail>
         b"{\"length\":1,\"results\":[]}".as_slice()
     );
     let counted = count(rt.alloc(), 0, 2)?;
-    for query in [walk(rt.alloc(), 2)?, sub(rt.alloc(), 2)?, sim(5, 2), counted] {
+    for query in [
+        walk(rt.alloc(), 2)?,
+        sub(rt.alloc(), 2)?,
+        sim(5, 2),
+        counted,
+    ] {
         let behind = body_of(rt.alloc(), &graph, &query)?;
         assert_eq!(rt;
             behind.as_slice(),
@@ -209,8 +214,14 @@ fn counted_posts_have_the_weights_of_their_seeds(rt: HostRuntime) -> Result<(), 
     ];
     add(&rt, &mut graph, &items);
     for (click, results) in [
-        (0, b"{\"length\":3,\"results\":[{\"post\":20,\"weight\":8,\"proof\":[1,2]},{\"post\":10,\"weight\":3,\"proof\":[1]}]}".as_slice()),
-        (2, b"{\"length\":3,\"results\":[{\"post\":20,\"weight\":8,\"proof\":[1,2]}]}".as_slice()),
+        (
+            0,
+            b"{\"length\":3,\"results\":[{\"post\":20,\"weight\":8,\"proof\":[1,2]},{\"post\":10,\"weight\":3,\"proof\":[1]}]}".as_slice(),
+        ),
+        (
+            2,
+            b"{\"length\":3,\"results\":[{\"post\":20,\"weight\":8,\"proof\":[1,2]}]}".as_slice(),
+        ),
         (3, b"{\"length\":3,\"results\":[]}".as_slice()),
     ] {
         let body = body_of(rt.alloc(), &graph, &count(rt.alloc(), click, 0)?)?;
