@@ -30,18 +30,18 @@ abbrev pub no_sums : PostSums
 no_sums = record { weight = no_sum; click = no_sum; favorite = no_sum; retweet = no_sum; reply = no_sum; tweet = no_sum }
 
 -- the sum of a kind after an end of a kind
-abbrev pub with_kind : ℕ → Kind → SeedSum → Kind → SeedSum
-with_kind turn of s kind = if same_kind of kind then with_seed s turn 1 else s
+abbrev pub kind_after : ℕ → Kind → SeedSum → Kind → SeedSum
+kind_after turn of s kind = if same_kind of kind then with_seed s turn 1 else s
 
 -- the sums of a post after an end of the seed of this turn, which has this weight
 abbrev pub with_end : ℕ → ℕ → PostSums → Kind → PostSums
 with_end turn weight s kind = record {
   weight = with_seed s.weight turn weight;
-  click = with_kind turn Click s.click kind;
-  favorite = with_kind turn Favorite s.favorite kind;
-  retweet = with_kind turn Retweet s.retweet kind;
-  reply = with_kind turn Reply s.reply kind;
-  tweet = with_kind turn Tweet s.tweet kind;
+  click = kind_after turn Click s.click kind;
+  favorite = kind_after turn Favorite s.favorite kind;
+  retweet = kind_after turn Retweet s.retweet kind;
+  reply = kind_after turn Reply s.reply kind;
+  tweet = kind_after turn Tweet s.tweet kind;
 }
 
 -- the seeds up to this turn have added to each of the sums
