@@ -7,8 +7,9 @@ use Rattle.gj_base.specs.declared.history.History.{History}
 use Rattle.gj_base.specs.declared.history.Shown.{Shown}
 use Rattle.gj_base.specs.declared.item.Entry.{Entry}
 use Rattle.gj_base.specs.declared.item.Item.{Item}
-use Rattle.gj_base.specs.History.{IsWindow, StandsFor, end_of, extend, items_of, length_of, more, window}
-use Rattle.gj_base.proofs.Windows.{more_capacity, more_end, more_segments, stands_end, stands_longer}
+use Rattle.gj_base.specs.Configuration.{Configuration}
+use Rattle.gj_base.specs.History.{IsWindow, StandsFor, empty_shown, end_of, extend, items_of, length_of, more, window, windowed}
+use Rattle.gj_base.proofs.Windows.{more_capacity, more_end, more_none, more_segments, stands_end, stands_longer}
 use Rattle.gj_follow.specs.Pages.{Paged, page_end}
 use Rattle.gj_follow.specs.Follows.{IsOf, joins, news, part, reach_one, taken, after_page}
 
@@ -87,3 +88,10 @@ stands_at w h start page false joins is first of stands = stands
 pub after_stands : (w : Shown) (h : History) (start : ℕ) (page : Paged) → IsWindow w → h.first ≤ start → IsOf h page → StandsFor w (part h start (end_of w))
     → StandsFor (after_page w page) (part h start (reach_one (end_of w) page))
 after_stands w h start page is first of stands = stands_at w h start page (joins (end_of w) page) refl is first of stands
+
+-- a follower with no interaction stands for no interaction of any history
+pub none_stands : (conf : Configuration) (start : ℕ) (h : History) → IsWindow (empty_shown conf start) → StandsFor (empty_shown conf start) (part h start (end_of (empty_shown conf start)))
+none_stands conf start h is =
+    let none : (start + 0) - start ≡ 0 = omega arith in
+    let entries : take ((start + 0) - start) (drop (start - h.first) h.entries) ≡ [] = ap (λ (k : ℕ). take k (drop (start - h.first) h.entries)) none in
+    sym (more_none (empty_shown conf start) is) ∙ ap (λ (es : List Entry). windowed conf.capacity conf.segments start (items_of es)) (sym entries)

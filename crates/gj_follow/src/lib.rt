@@ -7,7 +7,10 @@
 mod follower;
 mod page;
 mod paging;
+mod reading;
+mod table;
 
 pub use follower::{Follower, PageTaken};
 pub use page::{MAX_PAGE, Page};
 pub use paging::{PageError, page_of};
+pub use reading::{PageRefusal, read_page};
