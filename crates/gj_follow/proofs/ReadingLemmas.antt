@@ -18,20 +18,3 @@ names_by_keys table (entry ∷ entries) = ap (λ others. knows table (string_byt
 pub items_count : (values : List Value) → items_len (items_view values) ≡ length values
 items_count [] = refl
 items_count (value ∷ values) = ap suc (items_count values)
-
--- an element, and then those after it
-pub after_more : (earlier : List Interaction) (vs : List Value) (k : ℕ) (v : Value) → k < length vs → v ≡ get_or vs k v
-    → items_after earlier (items_view (drop k vs)) ≡ (item_of (view v) >>= λ x. items_after (earlier ++ x ∷ []) (items_view (drop (k + 1) vs)))
-after_more earlier vs k v h e =
-    let cut : drop k vs ≡ v ∷ drop (k + 1) vs = rw add-one (drop-cons vs k v h ∙ ap (λ u. u ∷ drop (suc k) vs) (sym e)) in
-    rw cut refl
-
--- an element that is taken
-pub after-some : (earlier : List Interaction) (x : Interaction) (all : Option (List Interaction)) (vs : List Value) (k : ℕ) (v : Value) → k < length vs → v ≡ get_or vs k v
-    → items_after earlier (items_view (drop k vs)) ≡ all → item_of (view v) ≡ Some x → items_after (earlier ++ x ∷ []) (items_view (drop (k + 1) vs)) ≡ all
-after-some earlier x all vs k v h e to taken = sym (rw taken at (after_more earlier vs k v h e)) ∙ to
-
--- an element that is refused
-pub after-none : (earlier : List Interaction) (all : Option (List Interaction)) (vs : List Value) (k : ℕ) (v : Value) → k < length vs → v ≡ get_or vs k v
-    → items_after earlier (items_view (drop k vs)) ≡ all → item_of (view v) ≡ None → all ≡ None
-after-none earlier all vs k v h e to refused = sym to ∙ (rw refused at (after_more earlier vs k v h e))

@@ -11,7 +11,7 @@ loop-place-preserved g c =
       low = omega arith;
       high = omega arith;
       items = pushed ∙ (ap (λ xs. xs ++ c.item.result ∷ []) c.loop-place.invariant.items
-      ∙ sym (items_more shown.items shown.first c.args.from c.loop-place.place c.item.result c.requires.from_base c.loop-place.invariant.low c.item.ensures));
+          ∙ sym (items_more shown.items shown.first c.args.from c.loop-place.place c.item.result c.requires.from_base c.loop-place.invariant.low c.item.ensures));
     }
 
 pub returns : goal.returns
