@@ -1,17 +1,17 @@
 -- What a follower stands for after a page.
-use Rattle.std.proofs.Common.{◌≡◌, ℕ, ◌+◌, ◌-◌, ◌≤◌, ◌<◌, Bool, true, false, cond, List, [], ◌∷◌, ◌++◌, length, take, drop, refl, sym, ap, ◌∙◌, arith, length-append, length-take, length-drop}
+use Rattle.std.proofs.Common.{◌≡◌, ℕ, ◌+◌, ◌-◌, ◌≤◌, ◌<◌, Bool, true, false, cond, List, [], ◌++◌, length, take, drop, refl, sym, ap, ◌∙◌, arith, length-append, length-drop}
 use Rattle.std.proofs.Math.Seq.{take-add}
-use Rattle.std.proofs.lemmas.List.{drop-drop, drop-take, take-map, drop-map, length-map}
+use Rattle.std.proofs.lemmas.List.{drop-drop, drop-take, take-map, drop-map}
 use Rattle.std.proofs.lemmas.Bool.Decides.{nat_tests}
 use Rattle.gj_base.specs.declared.history.History.{History}
 use Rattle.gj_base.specs.declared.history.Shown.{Shown}
 use Rattle.gj_base.specs.declared.item.Entry.{Entry}
 use Rattle.gj_base.specs.declared.item.Item.{Item}
 use Rattle.gj_base.specs.Configuration.{Configuration}
-use Rattle.gj_base.specs.History.{IsWindow, StandsFor, empty_shown, end_of, extend, items_of, length_of, more, window, windowed}
+use Rattle.gj_base.specs.History.{IsWindow, StandsFor, empty_shown, end_of, extend, items_of, more, window, windowed}
 use Rattle.gj_base.proofs.Windows.{more_capacity, more_end, more_none, more_segments, stands_end, stands_longer}
 use Rattle.gj_follow.specs.Pages.{Paged, page_end}
-use Rattle.gj_follow.specs.Follows.{IsOf, joins, news, part, reach_one, taken, after_page}
+use Rattle.gj_follow.specs.Follows.{IsOf, joins, news, part, reach_one, after_page}
 
 -- a page ends after what joins it
 pub news_end : (w : Shown) (page : Paged) → IsWindow w → page.from ≤ end_of w → end_of w < page_end page → end_of (more w (news (end_of w) page)) ≡ page_end page

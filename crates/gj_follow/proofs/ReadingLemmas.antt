@@ -1,14 +1,12 @@
 -- The names of an object, and the elements of an array.
-use Rattle.std.proofs.Common.{◌≡◌, ℕ, suc, ◌+◌, ◌<◌, Bool, true, false, List, [], ◌∷◌, ◌++◌, length, drop, get_or, add-one, String, Global, string_bytes, Option, Some, None, refl, sym, ap, ◌∙◌, subst}
+use Rattle.std.proofs.Common.{◌≡◌, suc, List, [], ◌∷◌, length, String, Global, string_bytes, refl, ap}
 use Rattle.std.specs.Prelude.{◌&&◌}
 use Rattle.std.specs.List.{list_all}
 use Rattle.std.specs.Map.{keys_of}
-use Rattle.std.proofs.Math.Seq.{drop-cons}
 use Rattle.serde_json.specs.Events.{items_len}
-use Rattle.serde_json.specs.View.{view, items_view, members_view}
+use Rattle.serde_json.specs.View.{items_view, members_view}
 use Rattle.serde_json.specs.declared.value.Value.{Value}
-use Rattle.gj_base.specs.Interaction.{Interaction}
-use Rattle.gj_follow.specs.Reading.{◌>>=◌, all_known, item_of, items_after, knows}
+use Rattle.gj_follow.specs.Reading.{all_known, knows}
 use Rattle.gj_follow.specs.declared.table.Table.{Table}
 
 pub names_by_keys : (table : Table) (entries : List (String Global × Value)) → list_all (λ text. knows table (string_bytes text)) (keys_of entries) ≡ all_known table (members_view entries)

@@ -1,5 +1,5 @@
 -- What a follower takes of pages, and the history that it then stands for. Own: a page is taken where it joins.
-use Rattle.std.specs.Prelude.{◌≡◌, ℕ, ◌+◌, ◌-◌, ◌≤◌, nat_le, nat_lt, ◌&&◌, Bool, if◌then◌else◌, List, [], ◌∷◌, length, take, drop}
+use Rattle.std.specs.Prelude.{◌≡◌, ℕ, ◌-◌, ◌≤◌, nat_le, nat_lt, ◌&&◌, Bool, if◌then◌else◌, List, [], ◌∷◌, length, take, drop}
 use Rattle.gj_base.specs.declared.history.History.{History}
 use Rattle.gj_base.specs.declared.history.Shown.{Shown}
 use Rattle.gj_base.specs.History.{end_of, items_of, length_of, more}

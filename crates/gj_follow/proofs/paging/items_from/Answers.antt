@@ -1,5 +1,4 @@
 use Rattle.std.proofs.Common.{◌≡◌, ◌+◌, ◌∷◌, [], ◌++◌, length, min, ap, sym, ◌∙◌, arith, rules}
-use Rattle.gj_base.specs.History.{end_of}
 use Rattle.gj_follow.proofs.PageLemmas.{items_more, items_done}
 use Rattle.gj_follow.proofs.paging.items_from.Goals as goal
 
