@@ -167,8 +167,9 @@ fn parse(alloc: Global, line: &[u8]) -> Result<Value, PageRefusal>
     }
 }
 
-/// The page that a line is, which has no line break at its end or white space alone. It takes memory for the line's tree
-/// and for the page's list.
+/// The page that a line is in JSON: an object of `length`, `from` and `items`, an array of at most `MAX_PAGE` objects of
+/// `user`, `post`, `kind` and `at`, in any order and with no other name. Each stands there, and numbers are whole. It takes
+/// memory for the line's tree and for the page's list.
 pub fn read_page(alloc: Global, line: &[u8]) -> Result<Page, PageRefusal>
     ensures exact { Gives (reading_of (tree_of line.now)) result }
 {
