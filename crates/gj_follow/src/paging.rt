@@ -1,6 +1,8 @@
 //! The pages of a graph.
 ghost use Rattle.std.specs.Prelude.{◌≡◌, ◌<◌, ◌≤◌, ◌-◌, ◌+◌, ◌↔◌, ℕ, [], IfOk, IsErrOf, OnOk, length};
-ghost use Rattle.gj_base.specs.History.{end_of};
+ghost use Rattle.gj_base.specs.declared.history.History.{History};
+ghost use Rattle.gj_base.specs.History.{StandsFor, end_of};
+ghost use Rattle.gj_follow.specs.Follows.{IsOf};
 ghost use Rattle.gj_follow.specs.Pages.{items_from, page_from};
 
 use crate::page::{MAX_PAGE, Page};
@@ -49,6 +51,8 @@ fn items_from<G: Graph>(alloc: Global, graph: &G, from: u64) -> Result<ItemList,
 /// takes memory for the page's list, and none for an error.
 pub fn page_of<G: Graph>(alloc: Global, graph: &G, from: u64) -> Result<Page, PageError>
     ensures ok { IfOk result (λ page. page ≡ page_from (G.shown graph.now) from) }
+    ensures of_history { (h : History) → StandsFor (G.shown graph.now) h → IfOk result (IsOf h) }
+
     ensures gone { (n b : ℕ) → IsErrOf result (PageError.Gone n b) ↔ ((from < (G.shown graph.now).first) × (n ≡ end_of (G.shown graph.now)) × (b ≡ (G.shown graph.now).first)) }
     ensures ahead { (n : ℕ) → IsErrOf result (PageError.Ahead n) ↔ ((end_of (G.shown graph.now) < from) × (n ≡ end_of (G.shown graph.now))) }
 {
