@@ -1,5 +1,4 @@
 //! A page of a history.
-ghost use Rattle.std.specs.Prelude.{◌≡◌, ◌+◌, length};
 
 use gj_base::ItemList;
 use std::marker::Model;

@@ -1,5 +1,5 @@
 //! Pages in JSON.
-ghost use Rattle.std.specs.Prelude.{◌≡◌, ◌≤◌, ◌++◌, ◌∷◌, [], length, codes, IfOk, IfErr, IfSome, OnOk, Err, Some};
+ghost use Rattle.std.specs.Prelude.{◌≡◌, ◌≤◌, [], length, IfOk, IfErr, IfSome, Err, Some};
 ghost use Rattle.serde_json.specs.View.{view, items_view};
 ghost use Rattle.gj_follow.specs.Reading as words;
 ghost use Rattle.gj_follow.specs.Reading.{Gives, Shapes, item_of, items_after, items_at, kind_at, number_at, page_read, reading_of, shaped, tree_of};

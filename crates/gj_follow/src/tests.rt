@@ -1,5 +1,3 @@
-ghost use Rattle.std.specs.Prelude.{◌≡◌, ◌≤◌, ◌^◌};
-
 use super::*;
 use gj_base::{Conf, Graph, Grow, HISTORY_END, Item, Kind, ListGraph, Memory};
 use std::alloc::Global;
