@@ -1,0 +1,5 @@
+pub mod FollowLemmas
+pub mod KindLemmas
+pub mod PageLemmas
+pub mod ReadingLemmas
+pub mod TreeLemmas
