@@ -16,9 +16,11 @@ use std::net::{Ipv4Addr, Shutdown, SocketAddr, TcpStream};
 use std::sync::{Mutex, Wait};
 use std::test::Fail;
 
-const INPUT: &[u8] = b"POST /interactions HTTP/1.1\r\nContent-Length: 50\r\n\r\n{\"items\":[{\"user\":1,\"post\":10,\"kind\":\"favorite\"}]}POST /walk HTTP/1.1\r\nContent-Length: 23\r\n\r\n{\"seeds\":[1],\"steps\":6}";
+const INPUT: &[u8] =
+    b"POST /interactions HTTP/1.1\r\nContent-Length: 50\r\n\r\n{\"items\":[{\"user\":1,\"post\":10,\"kind\":\"favorite\"}]}POST /walk HTTP/1.1\r\nContent-Length: 23\r\n\r\n{\"seeds\":[1],\"steps\":6}";
 
-const REPLIES: &[u8] = b"HTTP/1.1 200 OK\r\nContent-Type: application/json\r\nContent-Length: 21\r\nConnection: keep-alive\r\n\r\n{\"from\":0,\"length\":1}HTTP/1.1 200 OK\r\nContent-Type: application/json\r\nContent-Length: 59\r\nConnection: keep-alive\r\n\r\n{\"length\":1,\"results\":[{\"post\":10,\"visits\":3,\"proof\":[1]}]}";
+const REPLIES: &[u8] =
+    b"HTTP/1.1 200 OK\r\nContent-Type: application/json\r\nContent-Length: 21\r\nConnection: keep-alive\r\n\r\n{\"from\":0,\"length\":1}HTTP/1.1 200 OK\r\nContent-Type: application/json\r\nContent-Length: 59\r\nConnection: keep-alive\r\n\r\n{\"length\":1,\"results\":[{\"post\":10,\"visits\":3,\"proof\":[1]}]}";
 
 /// The ports that are tried.
 const PORTS: [u16; 4] = [47_017, 47_117, 47_217, 47_317];
@@ -70,11 +72,7 @@ fn served_by<J: Opening, R: Wait + Copy + Drop, L: Link + Drop>(
 }
 
 /// The same over a new opening.
-fn served<R: Wait + Copy + Drop, L: Link + Drop>(
-    rt: R,
-    alloc: Global,
-    link: L,
-) -> Option<Done<L>> {
+fn served<R: Wait + Copy + Drop, L: Link + Drop>(rt: R, alloc: Global, link: L) -> Option<Done<L>> {
     let conf = Conf::make(16, 2)?;
     let mut grants = Grants::new();
     served_by::<Brand, R, L>(rt, alloc, Naming::new(1), conf, link, &mut grants)
@@ -90,7 +88,10 @@ fn a_client_on_this_machine_reads_both_replies(rt: HostRuntime) -> Result<(), Fa
         let mut client = TcpStream::connect(&rt, SocketAddr::from((Ipv4Addr::LOCALHOST, port)))?;
         client.write_all(INPUT)?;
         client.shutdown(Shutdown::Write)?;
-        let link = door.next_link().expect(&rt, "a client has connected").expect(&rt, "the door is open");
+        let link = door
+            .next_link()
+            .expect(&rt, "a client has connected")
+            .expect(&rt, "the door is open");
         let done = served(&rt, rt.alloc(), link).expect(&rt, "there is memory");
         assert_eq!(rt; *done.end(), End::Finished);
         assert_eq!(rt; done.entered(), 1);

@@ -93,13 +93,19 @@ fn serve_index<
         return close(ServiceEnd::DoorFault, door, writer);
     }
     let tickets = Tickets::new(plan.workers);
-    let Listened {
-        end,
-        door,
-        writer,
-    } = serve_listening::<R, D, J, C, K, W, X, Brand, Brand, Brand, Brand>(
-        rt, alloc, plan, door, tickets, writer, seats, &routes, out,
-    );
+    let Listened { end, door, writer } = serve_listening::<
+        R,
+        D,
+        J,
+        C,
+        K,
+        W,
+        X,
+        Brand,
+        Brand,
+        Brand,
+        Brand,
+    >(rt, alloc, plan, door, tickets, writer, seats, &routes, out);
     close(end, door, writer)
 }
 

@@ -12,7 +12,15 @@ use std::alloc::Global;
 use std::sync::ledger::Ledger;
 
 /// The door's book, the desks, and lists with room for their passes and seats.
-pub(crate) struct Prepared<D: Door, W: Grow + Drop, J: Opening, T: Stating, B: Ledger, O: Ledger, E: Ledger> {
+pub(crate) struct Prepared<
+    D: Door,
+    W: Grow + Drop,
+    J: Opening,
+    T: Stating,
+    B: Ledger,
+    O: Ledger,
+    E: Ledger,
+> {
     pub book: DoorBook<D, T, B, O, E>,
     pub desks: Vec<Desk<W, J, T, B, O, E>>,
     pub passes: Vec<Pass<T, B, O, E>>,
@@ -54,7 +62,15 @@ fn set_up<W: Grow + Drop, J: Opening, T: Stating, B: Ledger, O: Ledger, E: Ledge
 }
 
 /// The door's book, the desks and the lists. It takes all memory that follows the number of workers.
-pub(crate) fn prepare<D: Door, W: Grow + Drop, J: Opening, T: Stating, B: Ledger, O: Ledger, E: Ledger>(
+pub(crate) fn prepare<
+    D: Door,
+    W: Grow + Drop,
+    J: Opening,
+    T: Stating,
+    B: Ledger,
+    O: Ledger,
+    E: Ledger,
+>(
     alloc: Global,
     door: D,
     tickets: Tickets,

@@ -154,11 +154,7 @@ where
             door,
         },
         Ok(keeper) => {
-            let Over {
-                end,
-                keeper,
-                door,
-            } = serve_over::<R, D, P::Kept, Window, O>(
+            let Over { end, keeper, door } = serve_over::<R, D, P::Kept, Window, O>(
                 rt, alloc, conf, keeper, plan, door, out, grants,
             );
             stores.take_back(keeper);
