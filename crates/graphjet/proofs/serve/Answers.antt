@@ -1,0 +1,5 @@
+use Rattle.gj_keep_sql.proofs.SendLemmas.{file_keeper_send}
+use Rattle.graphjet.proofs.serve.Goals as goal
+
+pub run_serve-status-requires-send-P-Kept : goal.run_serve-status-requires-send-P-Kept
+run_serve-status-requires-send-P-Kept g c κs within = file_keeper_send
