@@ -1,5 +1,6 @@
+use denote.Param.Send.{sendable}
 use Rattle.gj_keep_sql.proofs.SendLemmas.{file_keeper_send}
 use Rattle.graphjet.proofs.run.Goals as goal
 
 pub run_local-requires-send-P-Kept : goal.run_local-requires-send-P-Kept
-run_local-requires-send-P-Kept g c κs within = file_keeper_send
+run_local-requires-send-P-Kept g c κs within = search (sendable, file_keeper_send) depth 9
