@@ -1,2 +1,3 @@
 pub mod ReplayLemmas
+pub mod SendLemmas
 pub mod ServeLemmas

@@ -1,5 +1,5 @@
 use denote.Param.Send.{sendable}
-use Rattle.gj_keep_sql.proofs.SendLemmas.{file_keeper_send}
+use Rattle.graphjet.proofs.SendLemmas.{file_keeper_send}
 use Rattle.graphjet.proofs.serve.Goals as goal
 
 pub run_serve-status-requires-send-P-Kept : goal.run_serve-status-requires-send-P-Kept

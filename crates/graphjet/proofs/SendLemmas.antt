@@ -2,16 +2,16 @@
 use denote.Param.Send.{IsSend, sendable, struct_send, recorded_send, view_send}
 use denote.RattleType.{RattleType}
 use denote.Struct.Declared.{shape}
-use Rattle.sqlite.below.sqlite_std_file.specs.contracts.host.Host as Host
-use Rattle.sqlite.below.sqlite_std_file.specs.contracts.host.HostCalls.TheImpl as calls
-use Rattle.sqlite.below.sqlite_store.proofs.store.FileStore.TheSendSync as stores
-use Rattle.sqlite.below.sqlite_store.specs.contracts.store.FileStoreStore.TheImpl as stored
-use Rattle.sqlite.specs.contracts.FileStore as FileStore
-use Rattle.sqlite_disk.proofs.modelled.Modelled.TheSendSync as files
-use Rattle.sqlite_disk.specs.contracts.modelled.Modelled as Modelled
-use Rattle.sqlite_disk.specs.contracts.modelled.ModelledDisk.TheImpl as disk
-use Rattle.sqlite_disk.specs.contracts.start.Unknown as Unknown
-use Rattle.sqlite_disk.specs.contracts.start.UnknownStart.TheImpl as start
+use Rattle.gj_keep_sql.below.sqlite_std_file.specs.contracts.host.Host as Host
+use Rattle.gj_keep_sql.below.sqlite_std_file.specs.contracts.host.HostCalls.TheImpl as calls
+use Rattle.gj_keep_sql.below.sqlite_store.proofs.store.FileStore.TheSendSync as stores
+use Rattle.gj_keep_sql.below.sqlite_store.specs.contracts.store.FileStoreStore.TheImpl as stored
+use Rattle.gj_keep_sql.below.sqlite_store.specs.contracts.store.FileStore as FileStore
+use Rattle.gj_keep_sql.below.sqlite_disk.proofs.modelled.Modelled.TheSendSync as files
+use Rattle.gj_keep_sql.below.sqlite_disk.specs.contracts.modelled.Modelled as Modelled
+use Rattle.gj_keep_sql.below.sqlite_disk.specs.contracts.modelled.ModelledDisk.TheImpl as disk
+use Rattle.gj_keep_sql.below.sqlite_disk.specs.contracts.start.Unknown as Unknown
+use Rattle.gj_keep_sql.below.sqlite_disk.specs.contracts.start.UnknownStart.TheImpl as start
 use Rattle.gj_keep_sql.proofs.sql_keeper.SqlKeeper.TheSendSync as keepers
 use Rattle.gj_keep_sql.specs.contracts.sql_keeper.SqlKeeper as SqlKeeper
 use Rattle.gj_keep_sql.specs.contracts.file_keeper.FileKeeper as FileKeeper
