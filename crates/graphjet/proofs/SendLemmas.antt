@@ -1,7 +1,6 @@
 -- The keeper over a file may go to another thread.
-use denote.Param.Send.{IsSend, sendable, struct_send, recorded_send, view_send}
+use denote.Param.Send.{IsSend, sendable}
 use denote.RattleType.{RattleType}
-use denote.Struct.Declared.{shape}
 use Rattle.gj_keep_sql.below.sqlite_std_file.specs.contracts.host.Host as Host
 use Rattle.gj_keep_sql.below.sqlite_std_file.specs.contracts.host.HostCalls.TheImpl as calls
 use Rattle.gj_keep_sql.below.sqlite_store.proofs.store.FileStore.TheSendSync as stores
@@ -15,7 +14,6 @@ use Rattle.gj_keep_sql.below.sqlite_disk.specs.contracts.start.UnknownStart.TheI
 use Rattle.gj_keep_sql.proofs.sql_keeper.SqlKeeper.TheSendSync as keepers
 use Rattle.gj_keep_sql.specs.contracts.sql_keeper.SqlKeeper as SqlKeeper
 use Rattle.gj_keep_sql.specs.contracts.file_keeper.FileKeeper as FileKeeper
-use Rattle.gj_keep_sql.specs.contracts.file_keeper.FileKeeper.TheInside.{the_type}
 
 abbrev file : RattleType
 file = Modelled.the_row Host.the_row Unknown.the_row calls.ghosts start.ghosts
