@@ -91,9 +91,9 @@ fn both_links_are_served_and_come_back(rt: HostRuntime) -> Result<(), Fail> {
             b"ready 8017\nsessions 2 length 0\n".as_slice(),
             "{line}"
         );
-        let mut back = door.into_back();
+        let back = door.into_back();
         assert_eq!(rt; back.len(), 2, "{line}");
-        while let Some(done) = back.pop() {
+        for done in back {
             let link = done.into_link();
             assert!(rt;
                 link.sink().written().starts_with(b"HTTP/1.1 200 OK\r\n"),
