@@ -21,10 +21,11 @@ struct Row {
     fresh: u32,
 }
 
-/// The ends of each vertex of one side. Rows from `used` on are unused, behind all others.
+/// The ends of each vertex of one side.
 #[derive(Drop)]
 pub struct Lane {
     rows: Vec<Row>,
+    // nothing was noted for the vertices from here on
     used: usize,
     cells: Cells,
     back: Cells,
