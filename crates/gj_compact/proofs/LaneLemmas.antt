@@ -1,10 +1,10 @@
 -- What a change of one row changes of the lane.
 use Rattle.std.proofs.Common.{◌≡◌, ℕ, zero, suc, ◌+◌, ◌-◌, ◌<◌, ◌≤◌, ◌∙◌, List, [], ◌∷◌, ◌++◌, length, map, take, drop, set, get_or, replicate, refl, arith, sym, ap, inl, inr}
 use Rattle.std.proofs.lemmas.Bool.{cases_eq, cases_lt}
-use Rattle.std.proofs.lemmas.List.{length-map, length-set, length-take, length-drop, get_or-map, get_or-set_same, get_or-set_other, map-set, set-get_or, ext_get_or, drop-take, drop-drop, drop-set-lt, drop-set-add, take-set-le, take_more_set}
+use Rattle.std.proofs.lemmas.List.{length-map, length-set, length-take, length-drop, get_or-map, get_or-set_same, get_or-set_other, map-set, set-get_or, ext_get_or, drop-take, drop-drop, drop-set-lt, drop-set-add, take-set-le, take_more_set, length-append, length-replicate, get_or_default, get_or-replicate, get_or-drop, get_or_append_left, get_or-append_right}
 use Rattle.gj_compact.specs.declared.lane.Row.{Row}
 use Rattle.gj_compact.specs.declared.edge.End.{End}
-use Rattle.gj_compact.specs.Lanes.{AreLaid, row_run, row_end, shown_by, run_of, pushed, popped, noted, emptied}
+use Rattle.gj_compact.specs.Lanes.{AreLaid, AreUnused, IsLane, unused_row, row_run, row_end, shown_by, run_of, pushed, popped, noted, emptied}
 
 -- a row that shows the same as the one that it replaces
 same_at : {X Y : Type 0} (f : X → Y) (xs : List X) (i : ℕ) (x new : X) (d : Y) → i < length xs → x ≡ get_or xs i x → f new ≡ f x → map f (set xs i new) ≡ map f xs
@@ -101,10 +101,55 @@ pub map-replicate : {X Y : Type 0} (f : X → Y) (x : X) (n : ℕ) → map f (re
 map-replicate f x zero = refl
 map-replicate f x (suc n) = let rest = map-replicate f x n in rw rest refl
 
-pub lane_emptied : (rows rows' : List Row) (cells : List End) → rows' ≡ replicate (length rows) (record { start = 0; len = 0; spare = 0; fresh = 0 })
+-- what a row in the place of another shows alike, at each place
+same_in : (f : Row → ℕ) (rows : List Row) (v : ℕ) (row new : Row) → v < length rows → row ≡ get_or rows v row → f new ≡ f row → (w : ℕ) (d : Row)
+    → f (get_or (set rows v new) w d) ≡ f (get_or rows w d)
+same_in f rows v row new below is same w d = elim (cases_eq w v) [
+  | inl e ↦ rw e (ap f (get_or-set_same rows v new d below) ∙ (same ∙ (ap f is ∙ ap f (sym (get_or_default rows v d row below)))))
+  | inr ne ↦ ap f (get_or-set_other rows v w new d ne)
+]
+
+-- a note leaves the places of all rows
+pub note_kept : (rows : List Row) (used used' : ℕ) (cells back : List End) (v : ℕ) (row : Row) → IsLane rows used cells back → v < length rows → row ≡ get_or rows v row
+    → used ≤ used' → v < used' → used' ≤ length rows
+    → IsLane (set rows v (record { start = row.start; len = row.len; spare = row.spare; fresh = row.fresh + 1 })) used' cells back
+note_kept rows used used' cells back v row lane below is more past inside =
+    let new : Row = record { start = row.start; len = row.len; spare = row.spare; fresh = row.fresh + 1 } in
+    let ends = same_in row_end rows v row new below is refl in
+    let starts = same_in (λ (r : Row). r.start) rows v row new below is refl in
+    let long : length (set rows v new) ≡ length rows = length-set rows v new in
+    record {
+      small = lane.small;
+      same = lane.same;
+      laid = record {
+        within = λ w d h. omega (arith, ends w d, lane.laid.within w d (omega (arith, h, long)));
+        apart = λ u w d a h. omega (arith, ends u d, starts w d, lane.laid.apart u w d a (omega (arith, h, long)));
+      };
+      inside = omega (arith, inside, long);
+      unused = record { row = λ w d a h. get_or-set_other rows v w new d (omega arith) ∙ lane.unused.row w d (omega arith) (omega (arith, h, long)) };
+    }
+
+-- with the rows before `used` forgotten, all are unused
+pub rows_forgotten : (rows : List Row) (used size : ℕ) → used ≤ length rows → AreUnused rows used size → replicate used (unused_row size) ++ drop used rows ≡ replicate (length rows) (unused_row size)
+rows_forgotten rows used size inside none =
+    let row : Row = unused_row size in
+    let front : length (replicate used row) ≡ used = length-replicate used row in
+    let long : length (replicate used row ++ drop used rows) ≡ length rows = omega (arith, length-append (replicate used row) (drop used rows), front, length-drop used rows) in
+    ext_get_or row _ _ (long ∙ sym (length-replicate (length rows) row))
+    (λ i h.
+    let below : i < length rows = omega (arith, h, long) in
+    elim (cases_lt i used) [
+      | inl a ↦ get_or_append_left (replicate used row) (drop used rows) row i (omega (arith, a, front)) ∙ get_or-replicate used i row row a
+      | inr a ↦
+          let e : used + (i - used) ≡ i = omega arith in
+          get_or-append_right (replicate used row) (drop used rows) used i row front a
+          ∙ (get_or-drop used rows (i - used) row ∙ (ap (λ (n : ℕ). get_or rows n row) e ∙ none.row i row a below))
+    ] ∙ sym (get_or-replicate (length rows) i row row below))
+
+pub lane_emptied : (rows rows' : List Row) (cells : List End) (size : ℕ) → rows' ≡ replicate (length rows) (unused_row size)
     → shown_by rows' cells ≡ emptied (shown_by rows cells)
-lane_emptied rows rows' cells are =
-    let row : Row = record { start = 0; len = 0; spare = 0; fresh = 0 } in
+lane_emptied rows rows' cells size are =
+    let row : Row = unused_row size in
     let n = length-map rows (row_run cells) in
     let a = map-replicate (row_run cells) row (length rows) in
     let b = map-replicate (λ (r : Row). r.spare) row (length rows) in

@@ -1,12 +1,12 @@
 -- The runs laid out anew, row by row.
 use Rattle.std.proofs.Common.{◌≡◌, ◌≢◌, ℕ, zero, suc, ◌+◌, ◌-◌, ◌<◌, ◌≤◌, ◌∙◌, List, [], ◌∷◌, length, map, take, drop, set, get_or, refl, arith, sym, ap, inl, inr}
 use Rattle.std.specs.List.{sum_by}
-use Rattle.std.proofs.lemmas.Bool.{cases_eq}
+use Rattle.std.proofs.lemmas.Bool.{cases_eq, cases_lt}
 use Rattle.std.proofs.lemmas.List.{length-map, length-set, length-take, length-drop, get_or-map, get_or-set_same, get_or-set_other, ext_get_or, drop-take, take-take, get_or_default}
 use Rattle.std.proofs.lemmas.List.Sums.{sum_by-cons}
 use Rattle.gj_compact.specs.declared.lane.Row.{Row}
 use Rattle.gj_compact.specs.declared.edge.End.{End}
-use Rattle.gj_compact.specs.Lanes.{AreLaid, row_run, row_end, want_of, shown_by, opened}
+use Rattle.gj_compact.specs.Lanes.{AreLaid, AreUnused, unused_row, row_run, row_end, want_of, shown_by, opened}
 
 -- a row in its new place
 pub record IsMoved (old new : Row) (cells back : List End) (next : ℕ) : Type 0 where
@@ -84,12 +84,29 @@ laid_more old rows cells back back' v next row so below is copied before sum =
           ];
     }
 
--- when all are in place
-pub laid_all : (old rows : List Row) (cells back : List End) (v next size : ℕ) → LaidTo old rows cells back v next → length old ≤ v → next ≤ size → AreLaid rows size
-laid_all old rows cells back v next size so past fits = record {
-  within = λ w d h. omega (arith, (so.moved w d (omega (arith, h, so.long)) (omega (arith, h, so.long))).within, fits);
-  apart = λ u w d a h. so.apart u w d a (omega (arith, h, so.long)) (omega (arith, h, so.long));
+-- the rows behind them stay unused
+pub unused_rest : (old rows : List Row) (cells back : List End) (v next size : ℕ) → LaidTo old rows cells back v next → AreUnused old v size → AreUnused rows v size
+unused_rest old rows cells back v next size so none = record {
+  row = λ w d a h.
+      let b : w < length old = omega (arith, h, so.long) in
+      so.rest w d a b ∙ none.row w d a b;
 }
+
+-- when all are in place
+pub laid_all : (old rows : List Row) (cells back : List End) (v next size : ℕ) → LaidTo old rows cells back v next → AreUnused old v size → next ≤ size → AreLaid rows size
+laid_all old rows cells back v next size so none fits =
+    let rest = unused_rest old rows cells back v next size so none in
+    let within : (w : ℕ) (d : Row) → w < length rows → row_end (get_or rows w d) ≤ size = λ w d h. elim (cases_lt w v) [
+      | inl a ↦ omega (arith, (so.moved w d a (omega (arith, h, so.long))).within, fits)
+      | inr a ↦ omega (arith, ap row_end (rest.row w d a h))
+    ] in
+    record {
+      within = within;
+      apart = λ u w d a h. elim (cases_lt w v) [
+        | inl b ↦ so.apart u w d a b (omega (arith, h, so.long))
+        | inr b ↦ omega (arith, within u d (omega (arith, a, h)), ap (λ (r : Row). r.start) (rest.row w d b h))
+      ];
+    }
 
 map_same : {X Y : Type 0} (f g : X → Y) (xs ys : List X) (x : X) (y : Y) → length xs ≡ length ys → ((i : ℕ) → i < length ys → f (get_or xs i x) ≡ g (get_or ys i x)) → map f xs ≡ map g ys
 map_same f g xs ys x y long each =
@@ -99,22 +116,30 @@ map_same f g xs ys x y long each =
     let b : i < length ys = omega (arith, a, long) in
     get_or-map f xs i x y a ∙ (each i b ∙ sym (get_or-map g ys i x y b)))
 
-pub all_runs : (old rows : List Row) (cells back : List End) (v next : ℕ) → LaidTo old rows cells back v next → length old ≤ v → map (row_run back) rows ≡ map (row_run cells) old
-all_runs old rows cells back v next so past =
-    let d : Row = record { start = 0; len = 0; spare = 0; fresh = 0 } in
-    map_same (row_run back) (row_run cells) rows old d [] so.long (λ i h. (so.moved i d (omega (arith, h, past)) h).run)
+-- each row shows what it should, moved or unused
+shows_all : {Y : Type 0} (f g : Row → Y) (y : Y) (old rows : List Row) (cells back : List End) (v next size : ℕ) → LaidTo old rows cells back v next → AreUnused old v size
+    → f (unused_row size) ≡ g (unused_row size) → ((r r' : Row) → IsMoved r r' cells back next → f r' ≡ g r) → map f rows ≡ map g old
+shows_all f g y old rows cells back v next size so none same each =
+    let d : Row = unused_row size in
+    let rest = unused_rest old rows cells back v next size so none in
+    map_same f g rows old d y so.long (λ i h. elim (cases_lt i v) [
+      | inl a ↦ each (get_or old i d) (get_or rows i d) (so.moved i d a h)
+      | inr a ↦ ap f (rest.row i d a (omega (arith, h, so.long))) ∙ (same ∙ sym (ap g (none.row i d a h)))
+    ])
 
-pub all_spare : (old rows : List Row) (cells back : List End) (v next : ℕ) → LaidTo old rows cells back v next → length old ≤ v
+pub all_runs : (old rows : List Row) (cells back : List End) (v next size : ℕ) → LaidTo old rows cells back v next → AreUnused old v size
+    → map (row_run back) rows ≡ map (row_run cells) old
+all_runs old rows cells back v next size so none = shows_all (row_run back) (row_run cells) [] old rows cells back v next size so none refl (λ r r' m. m.run)
+
+pub all_spare : (old rows : List Row) (cells back : List End) (v next size : ℕ) → LaidTo old rows cells back v next → AreUnused old v size
     → map (λ (row : Row). row.spare) rows ≡ map (λ (row : Row). row.fresh) old
-all_spare old rows cells back v next so past =
-    let d : Row = record { start = 0; len = 0; spare = 0; fresh = 0 } in
-    map_same (λ (row : Row). row.spare) (λ (row : Row). row.fresh) rows old d 0 so.long (λ i h. (so.moved i d (omega (arith, h, past)) h).spare)
+all_spare old rows cells back v next size so none =
+    shows_all (λ (row : Row). row.spare) (λ (row : Row). row.fresh) 0 old rows cells back v next size so none refl (λ r r' m. m.spare)
 
-pub all_fresh : (old rows : List Row) (cells back : List End) (v next : ℕ) → LaidTo old rows cells back v next → length old ≤ v
+pub all_fresh : (old rows : List Row) (cells back : List End) (v next size : ℕ) → LaidTo old rows cells back v next → AreUnused old v size
     → map (λ (row : Row). row.fresh) rows ≡ map (λ (row : Row). 0) old
-all_fresh old rows cells back v next so past =
-    let d : Row = record { start = 0; len = 0; spare = 0; fresh = 0 } in
-    map_same (λ (row : Row). row.fresh) (λ (row : Row). 0) rows old d 0 so.long (λ i h. (so.moved i d (omega (arith, h, past)) h).fresh)
+all_fresh old rows cells back v next size so none =
+    shows_all (λ (row : Row). row.fresh) (λ (row : Row). 0) 0 old rows cells back v next size so none refl (λ r r' m. m.fresh)
 
 -- what the lists and the notes want is what the rows want
 pub wanted_is : (rows : List Row) (cells : List End) → ((v : ℕ) (d : Row) → v < length rows → row_end (get_or rows v d) ≤ length cells)

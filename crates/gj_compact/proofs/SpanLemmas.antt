@@ -1,5 +1,5 @@
 -- Counts by blocks whose moments are all before the least moment, or none of them.
-use Rattle.std.proofs.Common.{◌≡◌, ℕ, suc, ◌+◌, ◌-◌, ◌*◌, ◌/◌, ◌<◌, ◌≤◌, ◌∙◌, Bool, true, false, cond, List, [], ◌∷◌, length, filter, take, drop, get_or, count_by, slice_get, min, refl, arith, sym, ap, inl, inr}
+use Rattle.std.proofs.Common.{◌≡◌, ℕ, suc, ◌+◌, ◌-◌, ◌*◌, ◌/◌, ◌<◌, ◌≤◌, ◌∙◌, Bool, false, cond, List, [], ◌∷◌, length, filter, take, drop, get_or, count_by, slice_get, refl, arith, sym, ap, inl, inr}
 use Rattle.std.proofs.lemmas.Bool.{cases_Bool, le-leb, lt-leb}
 use Rattle.std.proofs.lemmas.List.{length-take, length-drop, get_or-take, get_or-drop, drop-drop, get_or_default}
 use Rattle.std.proofs.lemmas.List.Sums.{sum_by-cons}

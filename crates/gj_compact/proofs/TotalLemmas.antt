@@ -1,6 +1,6 @@
 -- Counts of kinds over all interactions.
-use Rattle.std.proofs.Common.{◌≡◌, ℕ, ◌+◌, ◌<◌, ◌∙◌, Bool, cond, List, [], ◌∷◌, length, map, take, get_or, count_by, refl, arith, sym, ap, subst}
-use Rattle.std.proofs.lemmas.List.{length-map, get_or-map, get_or_default}
+use Rattle.std.proofs.Common.{◌≡◌, ℕ, ◌+◌, ◌<◌, ◌∙◌, Bool, cond, List, [], ◌∷◌, length, map, take, get_or, count_by, refl, arith, sym, ap}
+use Rattle.std.proofs.lemmas.List.{length-map, get_or-map}
 use Rattle.std.proofs.lemmas.List.Sums.{sum_by-cons}
 use Rattle.gj_base.specs.declared.item.Item.{Item}
 use Rattle.gj_base.specs.declared.kind.Kind.{Kind}

@@ -35,11 +35,21 @@ pub record AreLaid (rows : List Row) (size : ℕ) : Type 0 where
   pub within : (v : ℕ) (d : Row) → v < length rows → row_end (slice_index_or rows v d) ≤ size
   pub apart : (v w : ℕ) (d : Row) → v < w → w < length rows → row_end (slice_index_or rows v d) ≤ (slice_index_or rows w d).start
 
+-- the row of a vertex for which nothing was noted, behind all cells
+abbrev pub unused_row : ℕ → Row
+unused_row size = record { start = size; len = 0; spare = 0; fresh = 0 }
+
+-- nothing was noted for the vertices from used on
+pub record AreUnused (rows : List Row) (used size : ℕ) : Type 0 where
+  pub row : (v : ℕ) (d : Row) → used ≤ v → v < length rows → slice_index_or rows v d ≡ unused_row size
+
 -- what stays true of a lane
-pub record IsLane (rows : List Row) (cells back : List End) : Type 0 where
+pub record IsLane (rows : List Row) (used : ℕ) (cells back : List End) : Type 0 where
   pub small : length cells ≤ 8388608
   pub same : length back ≡ length cells
   pub laid : AreLaid rows (length cells)
+  pub inside : used ≤ length rows
+  pub unused : AreUnused rows used (length cells)
 
 -- what a row holds, and what was noted for it
 abbrev pub want_of : Row → ℕ

@@ -1,9 +1,9 @@
 //! The ends of each vertex of one side, contiguous and oldest first.
-ghost use Rattle.std.specs.Prelude.{◌≡◌, ◌+◌, ◌-◌, ◌<◌, ◌≤◌, [], IfOk, IfSome, replicate, length, slice_get, slice_index_or, Some};
+ghost use Rattle.std.specs.Prelude.{◌≡◌, ◌+◌, ◌-◌, ◌<◌, ◌≤◌, [], ◌++◌, IfOk, IfSome, replicate, length, slice_get, slice_index_or, Some};
 ghost use Rattle.std.specs.Prelude.{ℕ, List, map, filter, take, drop, count_by, sum_by};
 ghost use Rattle.gj_compact.specs.Blocks.{lets_through, moments_between, AreBounds};
 ghost use Rattle.gj_compact.specs.declared.lane.Row.{Row};
-ghost use Rattle.gj_compact.specs.Lanes.{run_of, pushed, popped, noted, opened, emptied, wanted, want_of, row_run, AreLaid};
+ghost use Rattle.gj_compact.specs.Lanes.{run_of, pushed, popped, noted, opened, emptied, wanted, want_of, row_run, IsLane, unused_row};
 
 use crate::cells::Cells;
 use crate::edge::End;
@@ -21,17 +21,12 @@ struct Row {
     fresh: u32,
 }
 
-const NO_ENDS: Row = Row {
-    start: 0,
-    len: 0,
-    spare: 0,
-    fresh: 0,
-};
-
 /// The ends of each vertex of one side.
 #[derive(Drop)]
 pub struct Lane {
     rows: Vec<Row>,
+    // nothing was noted for the vertices from here on
+    used: usize,
     cells: Cells,
     back: Cells,
 }
@@ -43,22 +38,40 @@ impl Model for Lane {
 
     ghost view = { λ l. shown_by l.rows.items l.cells };
 
-    ghost invariant = { λ l. IsLane l.rows.items l.cells l.back };
+    ghost invariant = { λ l. IsLane l.rows.items l.used l.cells l.back };
 }
 
-/// Lays the runs out anew in `back`, each with room for what was noted.
-fn lay_out(rows: &mut [Row], cells: &Cells, back: &mut Cells)
-    requires laid { AreLaid rows.old (length cells.now) }
-    requires small { length back.old ≤ 8388608 }
+/// The row of a vertex for which nothing was noted, behind that many cells.
+fn unused(room: u32) -> Row
+    ensures { result ≡ unused_row room }
+{
+    Row {
+        start: room,
+        len: 0,
+        spare: 0,
+        fresh: 0,
+    }
+}
+
+/// Makes the first rows those of vertices for which nothing was noted.
+fn forget(rows: &mut [Row], used: usize, row: Row)
+    requires { used ≤ length rows.old }
+    ensures { rows.new ≡ replicate used row ++ drop used rows.old }
+{
+    rows[..used].fill(row);
+}
+
+/// Lays the runs of the first rows out anew in `back`, each with room for what was noted. The other rows have none.
+fn lay_out(rows: &mut [Row], used: usize, cells: &Cells, back: &mut Cells)
+    requires lane { IsLane rows.old used cells.now back.old }
     requires fits { sum_by want_of rows.old ≤ length back.old }
-    ensures long { length back.new ≡ length back.old }
-    ensures laid { AreLaid rows.new (length back.old) }
+    ensures lane { IsLane rows.new used back.new cells.now }
     ensures runs { map (row_run back.new) rows.new ≡ map (row_run cells.now) rows.old }
     ensures spare { map (λ (row : Row). row.spare) rows.new ≡ map (λ (row : Row). row.fresh) rows.old }
     ensures fresh { map (λ (row : Row). row.fresh) rows.new ≡ map (λ (row : Row). 0) rows.old }
 {
     let mut next = 0;
-    for v in 0..rows.len() {
+    for v in 0..used {
         let row = rows[v];
         back.copy_run(next as usize, cells, row.start as usize, row.len as usize);
         rows[v] = Row {
@@ -79,12 +92,17 @@ impl Lane {
         ensures fresh { IfOk result (λ lane. lane.fresh ≡ replicate vertices 0) }
         ensures room { IfOk result (λ lane. lane.room ≡ room) }
     {
-        let Ok(rows) = vec![in alloc; NO_ENDS; vertices as usize] else {
+        let Ok(rows) = vec![in alloc; unused(room); vertices as usize] else {
             return Err(Memory);
         };
         let cells = Cells::new(alloc, room)?;
         let back = Cells::new(alloc, room)?;
-        Ok(Lane { rows, cells, back })
+        Ok(Lane {
+            rows,
+            used: 0,
+            cells,
+            back,
+        })
     }
 
     /// How many ends the vertex has.
@@ -171,6 +189,7 @@ impl Lane {
         ensures { self.new ≡ noted self.old v }
     {
         self.rows[v as usize].fresh += 1;
+        self.used = self.used.max(v as usize + 1);
     }
 
     /// Drops the first end of the vertex.
@@ -214,19 +233,22 @@ impl Lane {
         self.cells.seal();
     }
 
-    /// Forgets all ends and notes. It takes time in the number of vertices.
+    /// Forgets all ends and notes. It takes time in the greatest vertex that was noted since it last did.
     pub fn clear(&mut self)
         ensures { self.new ≡ emptied self.old }
     {
-        self.rows.fill(NO_ENDS);
+        let room = self.cells.len() as u32;
+        forget(&mut self.rows, self.used, unused(room));
+        self.used = 0;
     }
 
-    /// Gives each vertex room for what was noted, so that it can be pushed. It takes time in the number of all ends.
+    /// Gives each vertex room for what was noted, so that it can be pushed. It takes time in the number of all ends and
+    /// in the greatest vertex that was noted since `clear`.
     pub fn open(&mut self)
         requires { wanted self.old ≤ self.old.room }
         ensures { self.new ≡ opened self.old }
     {
-        lay_out(&mut self.rows, &self.cells, &mut self.back);
+        lay_out(&mut self.rows, self.used, &self.cells, &mut self.back);
         std::mem::swap(&mut self.cells, &mut self.back);
     }
 }

@@ -1,5 +1,5 @@
-use Rattle.std.proofs.Common.{◌<◌, map, length, get_or, arith, ap, ◌∙◌}
-use Rattle.std.proofs.lemmas.List.{length-map, take_all, get_or_default}
+use Rattle.std.proofs.Common.{map, get_or, arith}
+use Rattle.std.proofs.lemmas.List.{get_or_default}
 use Rattle.gj_base.specs.declared.kind.Kind.TheVariants.{Click}
 use Rattle.gj_compact.specs.declared.edge.Edge.{Edge}
 use Rattle.gj_compact.specs.Sums.{edge_kind}

@@ -1,4 +1,4 @@
-use Rattle.std.proofs.Common.{◌≡◌, ◌≤◌, ◌+◌, ◌-◌, ℕ, List, filter, take, drop, slice_get, ap, sym, ◌∙◌, arith}
+use Rattle.std.proofs.Common.{◌≤◌, ◌+◌, ◌-◌, ℕ, List, filter, take, drop, slice_get, ap, sym, ◌∙◌, arith}
 use Rattle.gj_compact.specs.declared.edge.End.{End}
 use Rattle.gj_compact.specs.Blocks.{lets_through}
 use Rattle.gj_compact.proofs.SpanLemmas.{count_rest, nth_rest}

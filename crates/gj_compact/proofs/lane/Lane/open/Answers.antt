@@ -1,4 +1,4 @@
-use Rattle.std.proofs.Common.{List, map, arith, ap, ◌∙◌}
+use Rattle.std.proofs.Common.{List, map, arith, ap, sym, ◌∙◌}
 use Rattle.std.specs.List.{sum_by}
 use Rattle.std.proofs.lemmas.List.{with_items_is}
 use Rattle.gj_compact.specs.declared.lane.Row.{Row}
@@ -33,5 +33,5 @@ returns c =
     (c.lay_out.ensures.runs ∙ ap (map (row_run cells)) c.deref_mut.ensures.value)
     (c.lay_out.ensures.spare ∙ ap (map (λ (r : Row). r.fresh)) c.deref_mut.ensures.value)
     (c.lay_out.ensures.fresh ∙ ap (map (λ (r : Row). 0)) c.deref_mut.ensures.value)
-    (c.lay_out.ensures.long ∙ c.self.invariant.same)
+    (sym c.lay_out.ensures.lane.same)
     ∙ ap opened c.self.view_is))
