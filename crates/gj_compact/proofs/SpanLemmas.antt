@@ -12,7 +12,7 @@ use Rattle.gj_compact.specs.Blocks.{lets_through}
 use Rattle.gj_compact.specs.Cells.{joined}
 use Rattle.gj_compact.specs.Spans.{Bounds, AreSpans, no_span}
 use Rattle.gj_compact.proofs.CellLemmas.{take-joined, drop-joined}
-use Rattle.gj_compact.proofs.SumLemmas.{count_split, nth_split}
+use Rattle.gj_compact.proofs.SumLemmas.{count-joined, count_split, nth_split}
 
 -- no moment of these is before the least one of the mask, or each is
 abbrev pub AllSince : Mask → List ℕ → Type 0
@@ -96,6 +96,14 @@ count_before mask vs ks ats cells from to span columns bounds before =
     (part_long ks vs from (to - from) columns.kinds) (part_long ats vs from (to - from) columns.moments)
     (λ (i : ℕ) (h : i < length (take (to - from) (drop from ats))).
     (let at = part_at ats from to i h in omega (arith, at.0, (bounds (from + i) (omega arith) at.1).1)))
+
+-- a mask over all moments looks at the kinds alone
+pub count_ever : (mask : Mask) (vs : List ℕ) (ks : List Kind) (ats : List ℕ) (cells : List End) (from to : ℕ) → AreColumns vs ks ats cells → mask.not_before ≡ 0
+    → count_by (lets_through mask) (take (to - from) (drop from cells)) ≡ count_by (has_kind mask) (take (to - from) (drop from ks))
+count_ever mask vs ks ats cells from to columns ever =
+    ap (count_by (lets_through mask)) (part-joined vs ks ats cells from (to - from) columns.view)
+    ∙ count-joined mask (take (to - from) (drop from vs)) (take (to - from) (drop from ks)) (take (to - from) (drop from ats)) ever
+    (part_long ks vs from (to - from) columns.kinds) (part_long ats vs from (to - from) columns.moments)
 
 -- the span of the block bounds a part of it
 pub span_part : (spans : List Span) (ats : List ℕ) (from to : ℕ) (span : Span) → AreSpans spans ats → from / 64 < length spans → span ≡ get_or spans (from / 64) span

@@ -6,7 +6,7 @@ ghost use Rattle.gj_compact.specs.Cells.{no_end};
 use crate::counts::{Counts, NO_COUNTS};
 use crate::edge::End;
 use crate::spans::{NO_SPAN, Span, span_blocks};
-use crate::sums::{before, block_at, sum_blocks};
+use crate::sums::{before, block_at, count_between, sum_blocks};
 use gj_base::{Kind, Mask, Memory};
 use std::alloc::Global;
 use std::marker::Model;
@@ -106,6 +106,15 @@ impl Cells {
         ensures { IfSome (slice_get self.now i) (λ end. result ≡ end.vertex) }
     {
         self.vertices[i]
+    }
+
+    /// Whether the mask lets the end at a place through. Its moment is read only where the mask has its kind.
+    #[inline]
+    fn lets_at(&self, i: usize, mask: Mask) -> bool
+        requires { i < length self.now }
+        ensures { IfSome (slice_get self.now i) (λ end. result ≡ lets_through mask end) }
+    {
+        mask.has(self.kinds[i]) && mask.not_before() <= self.moments[i]
     }
 
     /// Counts the kinds before each block, and bounds its moments. It takes time in the number of cells.
@@ -241,8 +250,22 @@ impl Cells {
         self.scan_count(from, to, mask)
     }
 
-    /// How many of the ends the mask lets through, looked at one by one.
+    /// How many of the ends the mask lets through, looked at one by one: at their kinds alone, where the mask is over all
+    /// moments.
     fn scan_count(&self, from: usize, to: usize, mask: Mask) -> usize
+        requires order { from ≤ to }
+        requires inside { to ≤ length self.now }
+        ensures exact { result ≡ count_by (lets_through mask) (take (to - from) (drop from self.now)) }
+        ensures in_range { result ≤ to - from }
+    {
+        if mask.not_before() == 0 {
+            return count_between(&self.kinds, from, to, mask);
+        }
+        self.scan_dated(from, to, mask)
+    }
+
+    /// How many of the ends the mask lets through, each looked at with its moment.
+    fn scan_dated(&self, from: usize, to: usize, mask: Mask) -> usize
         requires order { from ≤ to }
         requires inside { to ≤ length self.now }
         ensures exact { result ≡ count_by (lets_through mask) (take (to - from) (drop from self.now)) }
@@ -267,10 +290,9 @@ impl Cells {
     {
         let mut left = i;
         for k in from..to {
-            let end = self.get(k);
-            if mask.lets(end.kind, end.at) {
+            if self.lets_at(k, mask) {
                 if left == 0 {
-                    return end;
+                    return self.get(k);
                 }
                 left -= 1;
             }

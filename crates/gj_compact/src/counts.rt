@@ -1,6 +1,6 @@
 //! Counts of kinds.
-ghost use Rattle.std.specs.Prelude.{◌≡◌, ◌<◌, ◌^◌, if◌then◌else◌};
-ghost use Rattle.gj_base.specs.Kinds.{has_kind};
+ghost use Rattle.std.specs.Prelude.{◌≡◌, ◌<◌, ◌≤◌, ◌^◌, if◌then◌else◌};
+ghost use Rattle.gj_base.specs.Kinds.{has_kind, same_kind};
 
 use gj_base::{Kind, Mask};
 
@@ -34,15 +34,13 @@ impl Counts {
         requires { (other : Kind) → kind_count self other < 4294967295 }
         ensures { (other : Kind) → kind_count result other ≡ kind_count self other + (if same_kind other kind then 1 else 0) }
     {
-        let mut counts = self;
-        match kind {
-            Kind::Click => counts.click += 1,
-            Kind::Favorite => counts.favorite += 1,
-            Kind::Retweet => counts.retweet += 1,
-            Kind::Reply => counts.reply += 1,
-            Kind::Tweet => counts.tweet += 1,
+        Counts {
+            click: self.click + one(kind, Kind::Click),
+            favorite: self.favorite + one(kind, Kind::Favorite),
+            retweet: self.retweet + one(kind, Kind::Retweet),
+            reply: self.reply + one(kind, Kind::Reply),
+            tweet: self.tweet + one(kind, Kind::Tweet),
         }
-        counts
     }
 
     /// One less of this kind.
@@ -71,6 +69,15 @@ impl Counts {
             + pick(mask, Kind::Reply, self.reply)
             + pick(mask, Kind::Tweet, self.tweet)
     }
+}
+
+/// 1, where it is that kind. There is no branch in it, since kinds come in any order.
+#[inline]
+fn one(kind: Kind, other: Kind) -> u32
+    ensures exact { result ≡ (if same_kind other kind then 1 else 0) }
+    ensures in_range { result ≤ 1 }
+{
+    u32::from(kind == other)
 }
 
 /// The count, where the mask has the kind.

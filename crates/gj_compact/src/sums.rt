@@ -1,5 +1,5 @@
 //! Counts of kinds before each block of 64 cells, so that a heavy vertex is counted and searched by blocks.
-ghost use Rattle.std.specs.Prelude.{◌≡◌, ◌+◌, ◌*◌, ◌<◌, ◌≤◌, length, take, drop, count_by, slice_index_or};
+ghost use Rattle.std.specs.Prelude.{◌≡◌, ◌+◌, ◌-◌, ◌*◌, ◌<◌, ◌≤◌, length, take, drop, count_by, slice_index_or};
 ghost use Rattle.gj_base.specs.Kinds.{has_kind};
 ghost use Rattle.gj_compact.specs.Counting.{counted, none_counted};
 ghost use Rattle.gj_compact.specs.Sums.{AreCounts, AreSums, IsRoom};
@@ -45,6 +45,16 @@ fn count_kinds(kinds: &[Kind], mask: Mask) -> usize
     ensures in_range { result ≤ length kinds.now }
 {
     kinds.iter().filter(|kind| mask.has(**kind)).count()
+}
+
+/// How many of the kinds from one place up to another the mask has.
+pub fn count_between(kinds: &[Kind], from: usize, to: usize, mask: Mask) -> usize
+    requires order { from ≤ to }
+    requires inside { to ≤ length kinds.now }
+    ensures exact { result ≡ count_by (has_kind mask) (take (to - from) (drop from kinds.now)) }
+    ensures in_range { result ≤ to - from }
+{
+    count_kinds(&kinds[from..to], mask)
 }
 
 /// How many of the kinds before a place the mask has.

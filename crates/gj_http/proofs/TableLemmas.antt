@@ -8,7 +8,7 @@ use Rattle.matchit.specs.Seek.{first}
 use Rattle.matchit.specs.Route.{scan}
 use Rattle.matchit.specs.Router.{RouteOf}
 use Rattle.gj_base.specs.declared.ask.Route.{Route}
-use Rattle.gj_base.specs.declared.ask.Route.TheVariants.{Interactions, Walk, Subgraph, Similar, Count, User, Post, Stats}
+use Rattle.gj_base.specs.declared.ask.Route.TheVariants.{Interactions, Walk, Subgraph, Similar, Count, User, Post, Stats, Log}
 use Rattle.gj_http.specs.Routes.{Routed, exact, with_id, first_of, is_part, route_of, id_of}
 use Rattle.gj_http.specs.Table.{table}
 use Rattle.gj_http.proofs.RowLemmas.{hits, AreBytes, IsPlain, ArePlain, IsRight, seek_right}
@@ -106,6 +106,7 @@ abbrev rows : RowsOf (RouteOf Route)
 rows =
     (codes "/count", record { pattern = codes "/count"; text = codes "/count"; names = []; value = Count })
     ∷ (codes "/interactions", record { pattern = codes "/interactions"; text = codes "/interactions"; names = []; value = Interactions })
+    ∷ (codes "/log/" ++ 256 ∷ [], record { pattern = codes "/log/" ++ 256 ∷ []; text = codes "/log/{from}"; names = (6, 10) ∷ []; value = Log })
     ∷ (codes "/posts/" ++ 256 ∷ [], record { pattern = codes "/posts/" ++ 256 ∷ []; text = codes "/posts/{id}"; names = (8, 10) ∷ []; value = Post })
     ∷ (codes "/similar", record { pattern = codes "/similar"; text = codes "/similar"; names = []; value = Similar })
     ∷ (codes "/stats", record { pattern = codes "/stats"; text = codes "/stats"; names = []; value = Stats })
@@ -124,18 +125,21 @@ rows_plain = (
   (
     plain_text (codes "/interactions") (are_bytes (codes "/interactions") refl),
     (
-      plain_param (codes "/posts/") (are_bytes (codes "/posts/") refl),
+      plain_param (codes "/log/") (are_bytes (codes "/log/") refl),
       (
-        plain_text (codes "/similar") (are_bytes (codes "/similar") refl),
+        plain_param (codes "/posts/") (are_bytes (codes "/posts/") refl),
         (
-          plain_text (codes "/stats") (are_bytes (codes "/stats") refl),
+          plain_text (codes "/similar") (are_bytes (codes "/similar") refl),
           (
-            plain_text (codes "/subgraph") (are_bytes (codes "/subgraph") refl),
+            plain_text (codes "/stats") (are_bytes (codes "/stats") refl),
             (
-              plain_param (codes "/users/") (are_bytes (codes "/users/") refl),
+              plain_text (codes "/subgraph") (are_bytes (codes "/subgraph") refl),
               (
-                plain_text (codes "/walk") (are_bytes (codes "/walk") refl),
-                tt,
+                plain_param (codes "/users/") (are_bytes (codes "/users/") refl),
+                (
+                  plain_text (codes "/walk") (are_bytes (codes "/walk") refl),
+                  tt,
+                ),
               ),
             ),
           ),
@@ -159,6 +163,9 @@ user_leads rest h = rw h refl
 post_leads : (rest : List ℕ) → is_part rest ≡ true → Leads Post (codes "/posts/" ++ rest)
 post_leads rest h = rw h refl
 
+log_leads : (rest : List ℕ) → is_part rest ≡ true → Leads Log (codes "/log/" ++ rest)
+log_leads rest h = rw h refl
+
 -- a hit of one row
 at_text : (t : List ℕ) (path : List ℕ) (row found : RouteOf Route) → is_bytes t ≡ true → Leads row.value t
     → (hits t path ≡ true) × (row ≡ found) → Leads found.value path
@@ -181,27 +188,30 @@ agrees_by None path n =
     none_first (exact (codes "/interactions") Interactions path) _
     (miss_exact (codes "/interactions") Interactions path (are_bytes (codes "/interactions") refl) n.1.0)
     (none_first (exact (codes "/walk") Walk path) _
-    (miss_exact (codes "/walk") Walk path (are_bytes (codes "/walk") refl) n.1.1.1.1.1.1.1.0)
+    (miss_exact (codes "/walk") Walk path (are_bytes (codes "/walk") refl) n.1.1.1.1.1.1.1.1.0)
     (none_first (exact (codes "/subgraph") Subgraph path) _
-    (miss_exact (codes "/subgraph") Subgraph path (are_bytes (codes "/subgraph") refl) n.1.1.1.1.1.0)
+    (miss_exact (codes "/subgraph") Subgraph path (are_bytes (codes "/subgraph") refl) n.1.1.1.1.1.1.0)
     (none_first (exact (codes "/similar") Similar path) _
-    (miss_exact (codes "/similar") Similar path (are_bytes (codes "/similar") refl) n.1.1.1.0)
+    (miss_exact (codes "/similar") Similar path (are_bytes (codes "/similar") refl) n.1.1.1.1.0)
     (none_first (exact (codes "/count") Count path) _
     (miss_exact (codes "/count") Count path (are_bytes (codes "/count") refl) n.0)
     (none_first (with_id (codes "/users/") User path) _
-    (miss_part (codes "/users/") User path (are_bytes (codes "/users/") refl) n.1.1.1.1.1.1.0)
+    (miss_part (codes "/users/") User path (are_bytes (codes "/users/") refl) n.1.1.1.1.1.1.1.0)
     (none_first (with_id (codes "/posts/") Post path) _
-    (miss_part (codes "/posts/") Post path (are_bytes (codes "/posts/") refl) n.1.1.0)
-    (miss_exact (codes "/stats") Stats path (are_bytes (codes "/stats") refl) n.1.1.1.1.0)))))))
+    (miss_part (codes "/posts/") Post path (are_bytes (codes "/posts/") refl) n.1.1.1.0)
+    (none_first (exact (codes "/stats") Stats path) _
+    (miss_exact (codes "/stats") Stats path (are_bytes (codes "/stats") refl) n.1.1.1.1.1.0)
+    (miss_part (codes "/log/") Log path (are_bytes (codes "/log/") refl) n.1.1.0))))))))
 agrees_by (Some found) path (inl w) = at_text (codes "/count") path _ found refl refl w
 agrees_by (Some found) path (inr (inl w)) = at_text (codes "/interactions") path _ found refl refl w
-agrees_by (Some found) path (inr (inr (inl w))) = at_param (codes "/posts/") path _ found refl post_leads w
-agrees_by (Some found) path (inr (inr (inr (inl w)))) = at_text (codes "/similar") path _ found refl refl w
-agrees_by (Some found) path (inr (inr (inr (inr (inl w))))) = at_text (codes "/stats") path _ found refl refl w
-agrees_by (Some found) path (inr (inr (inr (inr (inr (inl w)))))) = at_text (codes "/subgraph") path _ found refl refl w
-agrees_by (Some found) path (inr (inr (inr (inr (inr (inr (inl w))))))) = at_param (codes "/users/") path _ found refl user_leads w
-agrees_by (Some found) path (inr (inr (inr (inr (inr (inr (inr (inl w)))))))) = at_text (codes "/walk") path _ found refl refl w
-agrees_by (Some found) path (inr (inr (inr (inr (inr (inr (inr (inr w)))))))) = absurd w
+agrees_by (Some found) path (inr (inr (inl w))) = at_param (codes "/log/") path _ found refl log_leads w
+agrees_by (Some found) path (inr (inr (inr (inl w)))) = at_param (codes "/posts/") path _ found refl post_leads w
+agrees_by (Some found) path (inr (inr (inr (inr (inl w))))) = at_text (codes "/similar") path _ found refl refl w
+agrees_by (Some found) path (inr (inr (inr (inr (inr (inl w)))))) = at_text (codes "/stats") path _ found refl refl w
+agrees_by (Some found) path (inr (inr (inr (inr (inr (inr (inl w))))))) = at_text (codes "/subgraph") path _ found refl refl w
+agrees_by (Some found) path (inr (inr (inr (inr (inr (inr (inr (inl w)))))))) = at_param (codes "/users/") path _ found refl user_leads w
+agrees_by (Some found) path (inr (inr (inr (inr (inr (inr (inr (inr (inl w))))))))) = at_text (codes "/walk") path _ found refl refl w
+agrees_by (Some found) path (inr (inr (inr (inr (inr (inr (inr (inr (inr w))))))))) = absurd w
 
 -- what the router of the table finds is the route of the path
 pub table_agrees : (path : List ℕ) → AreBytes path → Agrees (first table path) path

@@ -1,13 +1,13 @@
 -- The routes of paths and the method of each route. Own: the table.
 use Rattle.std.specs.Prelude.{ℕ, List, [], ◌∷◌, Bool, true, false, Option, Some, None, Result, Ok, Err, ◌==◌, if◌then◌else◌, codes}
 use Rattle.gj_base.specs.declared.ask.Route.{Route}
-use Rattle.gj_base.specs.declared.ask.Route.TheVariants.{Interactions, Walk, Subgraph, Similar, Count, User, Post, Stats}
+use Rattle.gj_base.specs.declared.ask.Route.TheVariants.{Interactions, Walk, Subgraph, Similar, Count, User, Post, Stats, Log}
 use Rattle.gj_http.specs.declared.message.Method.{Method}
 use Rattle.gj_http.specs.declared.message.Method.TheVariants.{Get, Post as Posts, Other}
 use Rattle.gj_http.specs.declared.found.RouteError.{RouteError}
 use Rattle.gj_http.specs.declared.found.RouteError.TheVariants.{NoRoute, WrongMethod}
 
--- a route, with the text of an identifier where the path has one
+-- a route, with the text of an identifier or of a place where the path has one
 abbrev pub Routed : Type 0
 Routed = Route × Option (List ℕ)
 
@@ -47,7 +47,7 @@ first_of (Some routed) other = Some routed
 abbrev pub exact : List ℕ → Route → List ℕ → Option Routed
 exact text route path = at_end route (after text path)
 
--- the route, where the path is this text and an identifier's
+-- the route, where the path is this text and one part
 abbrev pub with_id : List ℕ → Route → List ℕ → Option Routed
 with_id text route path = at_part route (after text path)
 
@@ -61,13 +61,15 @@ route_of path =
     (first_of (exact (codes "/count") Count path)
     (first_of (with_id (codes "/users/") User path)
     (first_of (with_id (codes "/posts/") Post path)
-    (exact (codes "/stats") Stats path)))))))
+    (first_of (exact (codes "/stats") Stats path)
+    (with_id (codes "/log/") Log path))))))))
 
 -- the route's method is GET; the others' is POST
 abbrev pub is_get : Route → Bool
 is_get User = true
 is_get Post = true
 is_get Stats = true
+is_get Log = true
 is_get Interactions = false
 is_get Walk = false
 is_get Subgraph = false
@@ -90,10 +92,11 @@ under_method method (Some routed) =
 abbrev pub found_of : Method → List ℕ → Result Routed RouteError
 found_of method path = under_method method (route_of path)
 
--- the text of the identifier in the path of a route
+-- the text of the identifier, or of the place, in the path of a route
 abbrev pub id_of : Route → List ℕ → Option (List ℕ)
 id_of User path = after (codes "/users/") path
 id_of Post path = after (codes "/posts/") path
+id_of Log path = after (codes "/log/") path
 id_of Interactions path = None
 id_of Walk path = None
 id_of Subgraph path = None

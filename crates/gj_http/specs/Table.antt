@@ -1,7 +1,7 @@
 -- The routes, as the rows of a router.
 use Rattle.std.specs.Prelude.{ℕ, List, [], codes, Result, Ok, Err}
 use Rattle.gj_base.specs.declared.ask.Route.{Route}
-use Rattle.gj_base.specs.declared.ask.Route.TheVariants.{Interactions, Walk, Subgraph, Similar, Count, User, Post, Stats}
+use Rattle.gj_base.specs.declared.ask.Route.TheVariants.{Interactions, Walk, Subgraph, Similar, Count, User, Post, Stats, Log}
 use Rattle.matchit.specs.Rows.{RowsOf}
 use Rattle.matchit.specs.Route.{Scan, parse_route}
 use Rattle.matchit.specs.Router.{RouteOf, route_from}
@@ -20,11 +20,12 @@ with_row pattern route rows = with_scan (parse_route pattern) route rows
 -- the rows of all routes
 unfoldable pub table : RowsOf (RouteOf Route)
 table =
-    with_row (codes "/stats") Stats
+    with_row (codes "/log/{from}") Log
+    (with_row (codes "/stats") Stats
     (with_row (codes "/posts/{id}") Post
     (with_row (codes "/users/{id}") User
     (with_row (codes "/count") Count
     (with_row (codes "/similar") Similar
     (with_row (codes "/subgraph") Subgraph
     (with_row (codes "/walk") Walk
-    (with_row (codes "/interactions") Interactions [])))))))
+    (with_row (codes "/interactions") Interactions []))))))))

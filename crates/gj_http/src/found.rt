@@ -6,7 +6,7 @@ ghost use Rattle.gj_http.specs.Routes.{is_get, is_method, under_method};
 use crate::message::Method;
 use gj_base::Route;
 
-/// A route, with the identifier's text where the path has one.
+/// A route, with the text of the identifier, or of the place, where the path has one.
 #[derive(Clone, Copy, Debug)]
 pub struct Found<'a> {
     pub route: Route,
@@ -41,7 +41,7 @@ pub(crate) fn checked<'a>(method: Method, found: Found<'a>) -> Result<Found<'a>,
 fn takes_get(route: Route) -> bool
     ensures { result ≡ is_get route }
 {
-    matches!(route, Route::User | Route::Post | Route::Stats)
+    matches!(route, Route::User | Route::Post | Route::Stats | Route::Log)
 }
 
 /// Whether the method is the one of a route that takes GET, or POST.

@@ -30,6 +30,7 @@ impl Routes {
         add(&mut router, "/users/{id}", Route::User)?;
         add(&mut router, "/posts/{id}", Route::Post)?;
         add(&mut router, "/stats", Route::Stats)?;
+        add(&mut router, "/log/{from}", Route::Log)?;
         Ok(Routes { router })
     }
 
@@ -70,13 +71,14 @@ fn add(router: &mut Router<Route>, pattern: &str, route: Route) -> Result<(), Me
     }
 }
 
-/// The text of the identifier in the path of a route.
+/// The text of the identifier, or of the place, in the path of a route.
 fn id_in<'a>(route: Route, path: &'a str) -> Option<&'a str>
     ensures { option_copied result ≡ id_of route path.now }
 {
     match route {
         Route::User => path.strip_prefix("/users/"),
         Route::Post => path.strip_prefix("/posts/"),
+        Route::Log => path.strip_prefix("/log/"),
         _ => None,
     }
 }

@@ -123,6 +123,8 @@ fn each_path_has_its_route(rt: HostRuntime) -> Result<(), Fail> {
         Some("a%20"),
     );
     expect_route(&rt, alloc, Method::Get, "/stats", Route::Stats, None);
+    expect_route(&rt, alloc, Method::Get, "/log/0", Route::Log, Some("0"));
+    expect_route(&rt, alloc, Method::Get, "/log/x", Route::Log, Some("x"));
     Ok(())
 }
 
@@ -139,6 +141,9 @@ fn other_paths_and_other_methods_have_none(rt: HostRuntime) -> Result<(), Fail> 
         "/users/1/",
         "/users//1",
         "walk",
+        "/log",
+        "/log/",
+        "/log/0/",
     ] {
         expect_error(&rt, alloc, Method::Get, path, RouteError::NoRoute);
     }
@@ -149,5 +154,7 @@ fn other_paths_and_other_methods_have_none(rt: HostRuntime) -> Result<(), Fail> 
     let get = RouteError::WrongMethod { get: true };
     expect_error(&rt, alloc, Method::Post, "/posts/1", get);
     expect_error(&rt, alloc, Method::Other, "/stats", get);
+    expect_error(&rt, alloc, Method::Post, "/log/0", get);
+    expect_error(&rt, alloc, Method::Other, "/log/0", get);
     Ok(())
 }

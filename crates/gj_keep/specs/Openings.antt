@@ -1,6 +1,7 @@
 -- What an opening makes of a store, and which refusal is due.
-use Rattle.std.specs.Prelude.{◌≡◌, ◌⊎◌, ℕ, IsTrue, Option, Some, None, is_none, if◌then◌else◌}
+use Rattle.std.specs.Prelude.{◌≡◌, ◌⊎◌, ℕ, IsTrue, List, Option, Some, None, is_none, if◌then◌else◌}
 use Rattle.gj_base.specs.declared.keeper.KeptConf.{KeptConf}
+use Rattle.gj_base.specs.declared.keeper.KeptItem.{KeptItem}
 use Rattle.gj_base.specs.declared.history.History.{History}
 use Rattle.gj_base.specs.Causes.{one_more}
 use Rattle.gj_base.specs.Configuration.{Configuration}
@@ -15,6 +16,10 @@ use Rattle.gj_keep.specs.Rows.{first_bad, opened}
 -- what an opening makes of a store before it reads the rows: a store without a configuration gets the asked one, and one of version 1 is migrated
 abbrev pub prepared : Configuration → Kept → Kept
 prepared conf kept = if is_none kept.conf then with_conf kept (asked conf) else migrated kept
+
+-- this is the first bad one of some rows
+abbrev pub IsBadRow : Configuration → ℕ → Type 0
+IsBadRow conf row = (rows : List KeptItem) × (first_bad conf rows ≡ Some row)
 
 -- the refusal for the first bad row
 abbrev pub row_refusal : Option ℕ → Option OpenError

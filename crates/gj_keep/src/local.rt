@@ -21,10 +21,10 @@ impl<K: Keeper, W: Grow + Drop> Local<K, W> {
     ghost use Rattle.gj_base.specs.declared.history.History.{History};
     ghost use Rattle.gj_base.specs.declared.keeper.KeptConf.{KeptConf};
     ghost use Rattle.gj_base.specs.declared.keeper.KeptItem.{KeptItem};
-    ghost use Rattle.gj_keep.specs.declared.opening.OpenError.TheVariants.{ConfDiffers, Place, Store};
+    ghost use Rattle.gj_keep.specs.declared.opening.OpenError.TheVariants.{ConfDiffers, KeptRow, Place, Store};
     ghost use Rattle.gj_keep.specs.Books.{Keeps, asked, suits, told_rows};
     ghost use Rattle.gj_keep.specs.Locals.{LocalKeeps};
-    ghost use Rattle.gj_keep.specs.Openings.{IsLeft, IsPrepared, MayRefuse, due, faults_at};
+    ghost use Rattle.gj_keep.specs.Openings.{IsBadRow, IsLeft, IsPrepared, MayRefuse, due, faults_at};
     ghost use Rattle.gj_keep.specs.Rows.{good, opened};
 
     /// The index of what the keeper keeps. It takes memory for the rows and the graph.
@@ -46,6 +46,7 @@ impl<K: Keeper, W: Grow + Drop> Local<K, W> {
         ensures err { IfErr result (λ r. IsLeft conf (K.kept keeper) (K.kept r.keeper)) }
         ensures differs { IfErr result (λ r. (old now : KeptConf) → r.why ≡ ConfDiffers old now
             → (suits conf (Some old) ≡ false) × (now ≡ asked conf) × (K.kept r.keeper ≡ K.kept keeper)) }
+        ensures bad { IfErr result (λ r. (row : ℕ) → r.why ≡ KeptRow row → IsBadRow conf row) }
 
         // Whatever call failed last before, a kept history is opened again, and a refusal leaves it kept.
         ensures again { (h : History) → IsTrue (K.kept keeper).tells → Keeps conf (K.kept keeper) h

@@ -8,7 +8,7 @@ ghost use Rattle.gj_base.specs.History.{StandsFor};
 ghost use Rattle.gj_keep.specs.declared.opening.OpenError.{OpenError};
 ghost use Rattle.gj_keep.specs.declared.opening.OpenError.TheVariants.{Store, ConfDiffers, KeptRow, Place};
 ghost use Rattle.gj_keep.specs.Books.{BookKeeps, Keeps, asked, suits, told_rows};
-ghost use Rattle.gj_keep.specs.Openings.{IsPrepared, IsLeft, MayRefuse, Shows, due, faults_at};
+ghost use Rattle.gj_keep.specs.Openings.{IsBadRow, IsPrepared, IsLeft, MayRefuse, Shows, due, faults_at};
 ghost use Rattle.gj_keep.specs.Rows.{opened, good};
 
 use crate::book::Book;
@@ -113,6 +113,7 @@ fn read_rows<K: Keeper>(
     ensures err { OnErr result (IsLeft conf (K.kept keeper.old) (K.kept keeper.new)) }
     ensures differs { IfErr result (λ why. (old now : KeptConf) → why ≡ ConfDiffers old now
         → (suits conf (Some old) ≡ false) × (now ≡ asked conf) × (K.kept keeper.new ≡ K.kept keeper.old)) }
+    ensures bad { IfErr result (λ why. (row : ℕ) → why ≡ KeptRow row → IsBadRow conf row) }
     ensures refused { IsTrue (K.kept keeper.old).tells → IfErr result (λ why. MayRefuse (due conf (K.kept keeper.old)) why) }
     ensures bare_refused { IsTrue (K.kept keeper.old).bare → IfErr result (λ why. MayRefuse None why) }
     ensures place { IfErr result (λ why. why ≡ Place → ⊥) }
@@ -168,6 +169,7 @@ impl<K: Keeper> Book<K> {
         ensures err { IfErr result (λ r. IsLeft conf (K.kept keeper) (K.kept r.keeper)) }
         ensures differs { IfErr result (λ r. (old now : KeptConf) → r.why ≡ ConfDiffers old now
             → (suits conf (Some old) ≡ false) × (now ≡ asked conf) × (K.kept r.keeper ≡ K.kept keeper)) }
+        ensures bad { IfErr result (λ r. (row : ℕ) → r.why ≡ KeptRow row → IsBadRow conf row) }
 
         // Whatever call failed last before, a kept history is opened again, and a refusal leaves it kept.
         ensures again { (h : History) → IsTrue (K.kept keeper).tells → Keeps conf (K.kept keeper) h

@@ -1,5 +1,5 @@
 -- What comes of a workload. Own: the walks, and the numbers that are told of them.
-use Rattle.std.specs.Prelude.{ℕ, zero, suc, ◌+◌, ◌-◌, ◌/◌, ◌%◌, false, List, [], ◌∷◌, length, slice_get, Option, option_map}
+use Rattle.std.specs.Prelude.{ℕ, zero, suc, ◌+◌, ◌-◌, ◌/◌, ◌%◌, ◌≤◌, false, List, [], ◌∷◌, length, slice_get, Option, option_map}
 use Rattle.gj_base.specs.declared.item.Item.{Item}
 use Rattle.gj_base.specs.declared.history.History.{History}
 use Rattle.gj_base.specs.declared.history.Shown.{Shown}
@@ -19,6 +19,10 @@ use Rattle.gj_load.specs.declared.totals.Totals.{Totals}
 -- the history of these interactions
 abbrev pub history_of : List Item → History
 history_of items = extend (empty_history 0) (entries_by 0 items)
+
+-- the history of a beginning of a workload is kept
+abbrev pub KeepsBeginning : (History → Type 0) → ℕ → ℕ → Type 0
+KeepsBeginning keeps number count = (posted : ℕ) × (posted ≤ count) × keeps (history_of (items_from number posted))
 
 -- what the walk of this number asks for: 1000 steps from the user of one interaction
 abbrev pub walk_query : ℕ → ℕ → ℕ → WalkQuery

@@ -1,9 +1,9 @@
 //! The posting of a workload.
-ghost use Rattle.std.specs.Prelude.{◌≡◌, ◌⊎◌, ℕ, ◌+◌, ◌<◌, ◌≤◌, ◌^◌, IfOk, OnOk, IfErr};
+ghost use Rattle.std.specs.Prelude.{◌≡◌, ◌⊎◌, ℕ, ◌+◌, ◌<◌, ◌≤◌, ◌^◌, IfOk, OnOk, IfErr, OnErr};
 ghost use Rattle.gj_base.specs.Causes.{Rose};
 ghost use Rattle.gj_base.specs.History.{conf_of, empty_history};
 ghost use Rattle.gj_base.specs.declared.index.IndexError.TheVariants as why;
-ghost use Rattle.gj_load.specs.Totals.{history_of, totals_of};
+ghost use Rattle.gj_load.specs.Totals.{KeepsBeginning, history_of, totals_of};
 ghost use Rattle.gj_load.specs.Workload.{items_from, number_after};
 
 use crate::generator::next_items;
@@ -12,7 +12,7 @@ use crate::walks::walk_all;
 use gj_base::{Graph, Index, IndexError, MAX_BATCH, Memory};
 use std::alloc::Global;
 
-/// Posts the next batch of the workload, of which `done` interactions are posted, and answers the number after it.
+/// Posts so many interactions of the workload from the generator's number on, and answers the number after them.
 fn post_batch<I: Index>(
     alloc: Global,
     index: &mut I,
@@ -26,6 +26,7 @@ fn post_batch<I: Index>(
     ensures store { IfErr result (λ e. e ≡ why.Store → Rose (I.faults index.old) (I.faults index.new)) }
     ensures same { OnOk result (I.faults index.new ≡ I.faults index.old) }
     ensures full { IfErr result (λ e. (n : ℕ) → e ≡ why.Full n → 2 ^ 48 < end_of (I.viewed index.old) + batch) }
+    ensures err { (h : _) → I.keeps index.old h → OnErr result (I.keeps index.new h) }
 {
     let (items, after) = match next_items(alloc, number, batch as usize) {
         Ok(made) => made,
@@ -54,6 +55,7 @@ fn post_all<I: Index>(
     ensures conf { conf_of (I.viewed index.new) ≡ conf_of (I.viewed index.old) }
     ensures store { IfErr result (λ e. e ≡ why.Store → Rose (I.faults index.old) (I.faults index.new)) }
     ensures full { IfErr result (λ e. (n : ℕ) → e ≡ why.Full n → ⊥) }
+    ensures err { OnErr result (KeepsBeginning (I.keeps index.new) number count) }
 {
     let mut done = 0;
     let mut batches = 0;
@@ -86,6 +88,7 @@ pub fn run_load<I: Index>(
     ensures ok { IfOk result (λ t. t ≡ totals_of (conf_of (I.viewed index.old)) number count) }
     ensures store { IfErr result (λ e. e ≡ why.Store → Rose (I.faults index.old) (I.faults index.new)) }
     ensures full { IfErr result (λ e. (n : ℕ) → e ≡ why.Full n → ⊥) }
+    ensures leaves { KeepsBeginning (I.keeps index.new) number count }
 {
     let batches = post_all(alloc, index, number, count)?;
     let view = index.view();

@@ -12,7 +12,7 @@ use Rattle.gj_once.specs.declared.noted_index.OnceError.{OnceError}
 use Rattle.gj_once.specs.declared.posting.Call.{Call}
 use Rattle.gj_once.specs.declared.posting.Call.TheVariants as asked
 use Rattle.gj_once.specs.NotedPosts.{OnNew, OnOther}
-use Rattle.gj_once.specs.PostLists.{entering, items_in}
+use Rattle.gj_once.specs.PostLists.{entering, items_in, told_of}
 use Rattle.gj_once.proofs.WithinLemmas.{longer_end}
 
 -- a history with no entry more
@@ -29,7 +29,7 @@ end_other w v stays = ap end_of stays ∙ sym (add-zero (end_of w))
 
 -- where the view ends after the post of a numbered batch
 pub noted_end : (w v : Shown) (batch : NotedBatch) (call : Call) (result : Result Noted OnceError) → call ≡ asked.Noted batch → IsWindow w
-    → OnNew result (v ≡ more w batch.items) → OnOther result (v ≡ w) → end_of v ≡ end_of w + length (entering call result)
+    → OnNew result (v ≡ more w batch.items) → OnOther result (v ≡ w) → end_of v ≡ end_of w + length (entering call (told_of result))
 noted_end w v batch call (Ok (New r)) same is shows stays = end_new w v call batch.items is (ap items_in same) shows
 noted_end w v batch call (Ok (Repeated r)) same is shows stays = end_other w v stays
 noted_end w v batch call (Err why) same is shows stays = end_other w v stays
@@ -38,7 +38,7 @@ noted_end w v batch call (Err why) same is shows stays = end_other w v stays
 pub noted_keeps : (K L : History → Type 0) (batch : NotedBatch) (call : Call) (result : Result Noted OnceError) → call ≡ asked.Noted batch
     → ((h : History) (seat : ℕ) → K h → OnNew result (L (extend h (entries_by seat batch.items))))
     → ((h : History) → K h → OnOther result (L h))
-    → (h : History) (seat : ℕ) → K h → L (extend h (entries_by seat (entering call result)))
+    → (h : History) (seat : ℕ) → K h → L (extend h (entries_by seat (entering call (told_of result))))
 noted_keeps K L batch call (Ok (New r)) same new other h seat kept =
     let P : List Item → Type 0 = λ xs. L (extend h (entries_by seat xs)) in
     subst P (sym (ap items_in same)) (new h seat kept)

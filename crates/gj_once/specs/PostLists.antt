@@ -1,5 +1,5 @@
 -- What lists of posts bring into a history, and which of them take each numbered batch once.
-use Rattle.std.specs.Prelude.{◌≡◌, ℕ, ◌+◌, ◌-◌, ◌<◌, ◌≤◌, List, [], ◌∷◌, ◌++◌, length, slice_get, slice_range, Some, Result, Ok, Err}
+use Rattle.std.specs.Prelude.{◌≡◌, ℕ, ◌+◌, ◌-◌, ◌<◌, ◌≤◌, List, [], ◌∷◌, ◌++◌, length, slice_get, slice_range, Option, Some, None, Result, Ok, Err}
 use Rattle.gj_base.specs.Asks.{NotedBatch, IsNotedBatch}
 use Rattle.gj_base.specs.History.{items_of}
 use Rattle.gj_base.specs.declared.history.History.{History}
@@ -19,44 +19,49 @@ abbrev pub IsCall : Call → Type 0
 IsCall (asked.Plain items) = (0 < length items) × (length items ≤ 4096)
 IsCall (asked.Noted batch) = Unit {0}
 
--- a call with its answer
+-- a call with what its answer tells: how the batch is in the history, or nothing
 pub record Post : Type 0 where
   pub call : Call
-  pub answer : Result Noted OnceError
+  pub told : Option Noted
 
--- the calls with their answers
+-- what an answer of an index tells
+abbrev pub told_of : Result Noted OnceError → Option Noted
+told_of (Ok noted) = Some noted
+told_of (Err why) = None
+
+-- the calls with what their answers tell
 abbrev pub posts_of : List Call → List (Result Noted OnceError) → List Post
 posts_of calls [] = []
 posts_of [] (answer ∷ answers) = []
-posts_of (call ∷ calls) (answer ∷ answers) = record { call = call; answer = answer } ∷ posts_of calls answers
+posts_of (call ∷ calls) (answer ∷ answers) = record { call = call; told = told_of answer } ∷ posts_of calls answers
 
 -- the items of a call
 abbrev pub items_in : Call → List Item
 items_in (asked.Plain items) = items
 items_in (asked.Noted batch) = batch.items
 
--- the items that a call brings into the history by its answer
-abbrev pub entering : Call → Result Noted OnceError → List Item
-entering call (Ok (New receipt)) = items_in call
-entering call (Ok (Repeated receipt)) = []
-entering call (Err why) = []
+-- the items that a call brings into the history, by what its answer tells
+abbrev pub entering : Call → Option Noted → List Item
+entering call (Some (New receipt)) = items_in call
+entering call (Some (Repeated receipt)) = []
+entering call None = []
 
 -- those of all posts, in their order
 abbrev pub entered : List Post → List Item
 entered [] = []
-entered (post ∷ posts) = entering post.call post.answer ++ entered posts
+entered (post ∷ posts) = entering post.call post.told ++ entered posts
 
--- what is noted after the answer
-abbrev pub noted_by : List LastBatch → Call → Result Noted OnceError → List LastBatch
-noted_by lasts (asked.Plain items) answer = lasts
-noted_by lasts (asked.Noted batch) (Ok (New receipt)) = noting lasts batch.producer batch.number receipt
-noted_by lasts (asked.Noted batch) (Ok (Repeated receipt)) = lasts
-noted_by lasts (asked.Noted batch) (Err why) = lasts
+-- what is noted after the call, by what its answer tells
+abbrev pub noted_by : List LastBatch → Call → Option Noted → List LastBatch
+noted_by lasts (asked.Plain items) told = lasts
+noted_by lasts (asked.Noted batch) (Some (New receipt)) = noting lasts batch.producer batch.number receipt
+noted_by lasts (asked.Noted batch) (Some (Repeated receipt)) = lasts
+noted_by lasts (asked.Noted batch) None = lasts
 
 -- after all posts
 abbrev pub noted_after : List LastBatch → List Post → List LastBatch
 noted_after lasts [] = lasts
-noted_after lasts (post ∷ posts) = noted_after (noted_by lasts post.call post.answer) posts
+noted_after lasts (post ∷ posts) = noted_after (noted_by lasts post.call post.told) posts
 
 -- the places after so many interactions that these ones take
 abbrev pub Takes : ℕ → List Item → Receipt → Type 0
@@ -69,11 +74,12 @@ IsAnswer lasts before (asked.Noted batch) answer =
     IsNotedBatch batch × Answers (judged lasts batch.producer batch.number) answer × IfNew answer (Takes before batch.items)
 
 -- each answer is one to its call, where the earlier posts are noted
-abbrev pub AreAnswers : List LastBatch → ℕ → List Post → Type 0
-AreAnswers lasts before [] = Unit {0}
-AreAnswers lasts before (post ∷ posts) =
-    IsAnswer lasts before post.call post.answer
-    × AreAnswers (noted_by lasts post.call post.answer) (before + length (entering post.call post.answer)) posts
+abbrev pub AreAnswers : List LastBatch → ℕ → List Call → List (Result Noted OnceError) → Type 0
+AreAnswers lasts before calls [] = Unit {0}
+AreAnswers lasts before [] (answer ∷ answers) = Unit {0}
+AreAnswers lasts before (call ∷ calls) (answer ∷ answers) =
+    IsAnswer lasts before call answer
+    × AreAnswers (noted_by lasts call (told_of answer)) (before + length (entering call (told_of answer))) calls answers
 
 -- the items stand in the history at these places
 pub record Holds (h : History) (receipt : Receipt) (items : List Item) : Type 0 where
@@ -83,11 +89,11 @@ pub record Holds (h : History) (receipt : Receipt) (items : List Item) : Type 0 
 
 -- the post at this index brought the items of its call into the history, at these places
 abbrev pub EntersAt : List Post → ℕ → Call → Receipt → Type 0
-EntersAt posts i call receipt = slice_get posts i ≡ Some (record { call = call; answer = Ok (New receipt) })
+EntersAt posts i call receipt = slice_get posts i ≡ Some (record { call = call; told = Some (New receipt) })
 
--- the post at this index was answered that the batch had entered before, at these places
+-- the post at this index was told that the batch had entered before, at these places
 abbrev pub RepeatsAt : List Post → ℕ → NotedBatch → Receipt → Type 0
-RepeatsAt posts i batch receipt = slice_get posts i ≡ Some (record { call = asked.Noted batch; answer = Ok (Repeated receipt) })
+RepeatsAt posts i batch receipt = slice_get posts i ≡ Some (record { call = asked.Noted batch; told = Some (Repeated receipt) })
 
 -- an earlier post brought a batch of the producer with this number into the history, at these places
 pub record EnteredBefore (posts : List Post) (i producer number : ℕ) (receipt : Receipt) : Type 0 where

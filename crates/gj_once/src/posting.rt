@@ -4,7 +4,7 @@ ghost use Rattle.std.specs.List.{All};
 ghost use Rattle.gj_base.specs.declared.history.History.{History};
 ghost use Rattle.gj_base.specs.History.{end_of, extend, entries_by};
 ghost use Rattle.gj_once.specs.Judging.{nothing_noted};
-ghost use Rattle.gj_once.specs.PostLists.{AreAnswers, IsAnswer, IsCall, OnceOnly, entered, entering, noted_after, noted_by, posts_of};
+ghost use Rattle.gj_once.specs.PostLists.{AreAnswers, IsAnswer, IsCall, OnceOnly, entered, entering, noted_after, noted_by, posts_of, told_of};
 
 use crate::noted_index::{Noted, NotedIndex, OnceError};
 use gj_base::{ItemList, Memory, NotedItems};
@@ -26,9 +26,9 @@ pub enum Call {
 fn post_one<N: NotedIndex>(index: &mut N, call: &Call) -> Answer
     requires { IsCall call.now }
     ensures exact { IsAnswer (N.noted index.old) (end_of (N.viewed index.old)) call.now result }
-    ensures noted { N.noted index.new ≡ noted_by (N.noted index.old) call.now result }
-    ensures end { end_of (N.viewed index.new) ≡ end_of (N.viewed index.old) + length (entering call.now result) }
-    ensures keeps { (h : History) (seat : ℕ) → N.keeps index.old h → N.keeps index.new (extend h (entries_by seat (entering call.now result))) }
+    ensures noted { N.noted index.new ≡ noted_by (N.noted index.old) call.now (told_of result) }
+    ensures end { end_of (N.viewed index.new) ≡ end_of (N.viewed index.old) + length (entering call.now (told_of result)) }
+    ensures keeps { (h : History) (seat : ℕ) → N.keeps index.old h → N.keeps index.new (extend h (entries_by seat (entering call.now (told_of result)))) }
 {
     match call {
         Call::Plain(items) => match index.post_plain(items.as_slice()) {
@@ -57,7 +57,7 @@ pub fn post_all<N: NotedIndex>(
 ) -> Result<Vec<Answer>, Memory>
     requires { All IsCall calls.now }
     ensures each { IfOk result (λ answers. length answers.items ≡ length calls.now) }
-    ensures exact { IfOk result (λ answers. AreAnswers (N.noted index.old) (end_of (N.viewed index.old)) (posts_of calls.now answers.items)) }
+    ensures exact { IfOk result (λ answers. AreAnswers (N.noted index.old) (end_of (N.viewed index.old)) calls.now answers.items) }
     ensures noted { IfOk result (λ answers. N.noted index.new ≡ noted_after (N.noted index.old) (posts_of calls.now answers.items)) }
     ensures keeps { (h : History) (seat : ℕ) → N.keeps index.old h
         → IfOk result (λ answers. N.keeps index.new (extend h (entries_by seat (entered (posts_of calls.now answers.items))))) }

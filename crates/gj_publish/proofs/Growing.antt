@@ -1,5 +1,5 @@
 -- What the writer's type keeps as the history grows.
-use Rattle.std.proofs.Common.{◌≡◌, ℕ, ◌+◌, List, length, map, sym, ap, ◌∙◌, subst, arith, length-append, Option, None}
+use Rattle.std.proofs.Common.{◌≡◌, ℕ, ◌+◌, ◌≤◌, List, length, map, sym, ap, ◌∙◌, subst, arith, length-append, Option, None}
 use Rattle.std.proofs.lemmas.List.{length-map}
 use Rattle.std.specs.Prelude.{IfSome}
 use Rattle.gj_base.specs.declared.item.Item.{Item}
@@ -10,7 +10,10 @@ use Rattle.gj_keep.specs.Books.{BookView, BookKeeps, KeepsFrom}
 use Rattle.gj_keep.specs.Rows.{opened, item_of}
 use Rattle.gj_base.specs.declared.keeper.KeptItem.{KeptItem}
 use Rattle.gj_base.proofs.Windows.{items_back}
-use Rattle.gj_publish.specs.Writers.{IsOwed, IsGrown, RowsAre, by_seat}
+use Rattle.gj_once.specs.declared.verdict.LastBatch.{LastBatch}
+use Rattle.gj_once.specs.Judging.{last_of, nothing_noted}
+use Rattle.gj_once.proofs.JudgingLemmas.{nothing_of}
+use Rattle.gj_publish.specs.Writers.{AreWithin, IsOwed, IsGrown, RowsAre, by_seat}
 use Rattle.gj_publish.proofs.Counting.{count_more}
 use Rattle.gj_publish.proofs.Histories.{begins_self, begins_trans, begins_longer, extend_nil}
 
@@ -58,3 +61,15 @@ posted_is k h g xs old new met more now = more ∙ (ap (λ n. n + length xs) met
 pub rows_kept : (conf : Configuration) (book : BookView) (h : History) → BookKeeps book h → book.conf ≡ conf → RowsAre conf book.kept h
 rows_kept conf book h keeps is =
     λ tells. (book.first, subst (λ (z : Configuration). KeepsFrom z.capacity z.segments book.first book.kept.rows h) is (keeps.rows_are tells))
+
+-- where nothing is noted, all of it is within each history
+pub within_none : (h : History) → AreWithin nothing_noted h
+within_none h producer =
+    let none : (last_of nothing_noted producer).receipt.to ≡ 0 = ap (λ (last : LastBatch). last.receipt.to) (nothing_of producer) in
+    omega arith
+
+-- what is noted is within a longer history too
+pub within_more : (noted : List LastBatch) (h g : History) (k : ℕ) (xs : List Item) → g ≡ extend h (entries_by k xs) → AreWithin noted h → AreWithin noted g
+within_more noted h g k xs now within producer =
+    let ends : (last_of noted producer).receipt.to ≤ length_of h = within producer in
+    omega (arith, ap length_of now, length_more h k xs)

@@ -1,3 +1,4 @@
+pub mod CallsLemmas
 pub mod Counting
 pub mod Growing
 pub mod Histories

@@ -11,7 +11,8 @@ abbrev pub after_look : {T : Type 0} → Result T NoLook → Numbers → Numbers
 after_look (Ok t) numbers = looked numbers
 after_look (Err why) numbers = not_looked numbers
 
-abbrev after_error : PostError → Numbers → Numbers
+-- after a post that is refused so
+abbrev pub after_error : PostError → Numbers → Numbers
 after_error refused.Memory numbers = looked numbers
 after_error (refused.KeptUnseen r) numbers = looked numbers
 after_error refused.Store numbers = not_stored (looked numbers)
@@ -24,12 +25,25 @@ abbrev pub after_post : Result Receipt PostError → Numbers → Numbers
 after_post (Ok r) numbers = looked numbers
 after_post (Err why) numbers = after_error why numbers
 
+-- P, if a post that is refused so went on after its look
+abbrev pub IfMet : PostError → Type 0 → Type 0
+IfMet refused.Memory P = P
+IfMet (refused.KeptUnseen r) P = P
+IfMet refused.Store P = P
+IfMet (refused.Full n) P = Unit {0}
+IfMet (refused.NoLook why) P = Unit {0}
+IfMet (refused.Apart seen shown posted counted) P = Unit {0}
+
 -- where a post went on after its look, P holds
 abbrev pub OnMet : Result Receipt PostError → Type 0 → Type 0
 OnMet (Ok r) P = P
-OnMet (Err refused.Memory) P = P
-OnMet (Err (refused.KeptUnseen r)) P = P
-OnMet (Err refused.Store) P = P
-OnMet (Err (refused.Full n)) P = Unit {0}
-OnMet (Err (refused.NoLook why)) P = Unit {0}
-OnMet (Err (refused.Apart seen shown posted counted)) P = Unit {0}
+OnMet (Err why) P = IfMet why P
+
+-- the look was refused, or seat and writer do not fit
+abbrev pub IsUnmet : PostError → Type 0
+IsUnmet refused.Memory = ⊥
+IsUnmet (refused.KeptUnseen r) = ⊥
+IsUnmet refused.Store = ⊥
+IsUnmet (refused.Full n) = ⊥
+IsUnmet (refused.NoLook why) = Unit {0}
+IsUnmet (refused.Apart seen shown posted counted) = Unit {0}

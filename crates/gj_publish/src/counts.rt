@@ -1,11 +1,12 @@
-//! The numbers of a seat that bound its refusals.
+//! The numbers of a seat that bound its refusals and its repeats.
 ghost use Rattle.std.specs.Prelude.{◌≡◌};
-ghost use Rattle.gj_publish.specs.Seats.{no_numbers, looked, not_looked, not_stored, not_fitted, not_met};
+ghost use Rattle.gj_publish.specs.Seats.{no_numbers, looked, not_looked, not_stored, not_fitted, not_met, after_verdict};
 
+use gj_once::Verdict;
 use std::marker::Model;
 
-/// How often a seat looked, was refused a look, and was refused a post by each cause. A number at the last value of a
-/// u64 stays. Contracts alone see them.
+/// How often a seat looked, was refused a look, was refused a post by each cause, and had a noted batch judged each way. A
+/// number at the last value of a u64 stays. Contracts alone see them.
 #[derive(Drop)]
 pub struct Counts {
     looks: u64,
@@ -13,6 +14,10 @@ pub struct Counts {
     store: u64,
     full: u64,
     apart: u64,
+    judged_fresh: u64,
+    judged_repeat: u64,
+    judged_old: u64,
+    judged_skipped: u64,
 }
 
 impl Model for Counts {
@@ -20,7 +25,7 @@ impl Model for Counts {
 
     ghost Value = { Numbers };
 
-    ghost view = { λ c. record { looks = c.looks; refused = c.refused; store = c.store; full = c.full; apart = c.apart } };
+    ghost view = { λ c. record { looks = c.looks; refused = c.refused; store = c.store; full = c.full; apart = c.apart; judged_fresh = c.judged_fresh; judged_repeat = c.judged_repeat; judged_old = c.judged_old; judged_skipped = c.judged_skipped } };
 }
 
 impl Counts {
@@ -34,6 +39,10 @@ impl Counts {
             store: 0,
             full: 0,
             apart: 0,
+            judged_fresh: 0,
+            judged_repeat: 0,
+            judged_old: 0,
+            judged_skipped: 0,
         }
     }
 
@@ -70,5 +79,21 @@ impl Counts {
         ensures { self.new ≡ not_met self.old }
     {
         self.apart = self.apart.saturating_add(1);
+    }
+
+    /// A noted batch was judged so.
+    pub fn judge(&mut self, verdict: Verdict)
+        ensures { self.new ≡ after_verdict verdict self.old }
+    {
+        match verdict {
+            Verdict::Fresh => self.judged_fresh = self.judged_fresh.saturating_add(1),
+            Verdict::Repeat { receipt: _ } => {
+                self.judged_repeat = self.judged_repeat.saturating_add(1);
+            }
+            Verdict::Old { last: _ } => self.judged_old = self.judged_old.saturating_add(1),
+            Verdict::Skipped { last: _ } => {
+                self.judged_skipped = self.judged_skipped.saturating_add(1);
+            }
+        }
     }
 }

@@ -23,6 +23,6 @@ pub use copies::Copies;
 pub use grants::Grants;
 pub use opening::{GraphWriter, open_index};
 pub use pane::Pane;
-pub use refusal::{NoLook, PostError};
+pub use refusal::{NoLook, NotedError, PostError};
 pub use seat::Seat;
-pub use writer::Writer;
+pub use writer::{Answer, SeatCall, Writer};

@@ -6,10 +6,11 @@ ghost use Rattle.gj_base.specs.declared.keeper.KeptConf.{KeptConf};
 ghost use Rattle.gj_base.specs.declared.keeper.KeptItem.{KeptItem};
 ghost use Rattle.gj_base.specs.Causes.{Rose};
 ghost use Rattle.gj_base.specs.History.{StandsFor, conf_of, empty_history, length_of};
-ghost use Rattle.gj_keep.specs.declared.opening.OpenError.TheVariants.{Memory, Store, ConfDiffers, Place};
+ghost use Rattle.gj_keep.specs.declared.opening.OpenError.TheVariants.{Memory, Store, ConfDiffers, KeptRow, Place};
 ghost use Rattle.gj_keep.specs.Books.{Keeps, asked, suits, told_rows};
-ghost use Rattle.gj_keep.specs.Openings.{IsLeft, IsPrepared, MayRefuse, due, faults_at, opening_of};
+ghost use Rattle.gj_keep.specs.Openings.{IsBadRow, IsLeft, IsPrepared, MayRefuse, due, faults_at, opening_of};
 ghost use Rattle.gj_keep.specs.Rows.{opened};
+ghost use Rattle.gj_once.specs.Judging.{nothing_noted};
 ghost use Rattle.gj_publish.specs.Seats.{no_numbers};
 ghost use Rattle.gj_publish.specs.Writers.{Resumes};
 
@@ -22,6 +23,7 @@ use crate::writer::Writer;
 use gj_base::{Conf, Graph, Grow, Keeper, KeptItem};
 use gj_keep::{Book, OpenError, OpenRefused};
 use gj_log::{Front, Naming, Opening, Scribe};
+use gj_once::Once;
 use left_right::WriteHandle;
 use std::alloc::Global;
 use std::snapshot::Snapshot;
@@ -76,6 +78,7 @@ struct Parts<J: Opening, W: Grow + Drop, C> {
     scribe: Scribe<J>,
     ledger: Ledger<J>,
     counted: Counted,
+    once: Once,
     seats: Vec<Seat<W, J>>,
 }
 
@@ -100,6 +103,7 @@ fn parts_of<J: Opening, W: Grow + Drop, R: Wait + Drop>(
     ensures copies { IfOk result (λ r. (pending r.copies ≡ []) × (published r.copies ≡ opened rows.now.value.items)) }
     ensures scribe { IfOk result (λ r. r.scribe ≡ record { opening = opened rows.now.value.items; history = opened rows.now.value.items; ready = false }) }
     ensures ledger { IfOk result (λ r. (r.ledger.total ≡ 0) × (r.counted ≡ replicate places 0)) }
+    ensures once { IfOk result (λ r. r.once ≡ nothing_noted) }
     ensures all { IfOk result (λ r. length r.seats.items ≡ places) }
     ensures each { IfOk result (λ r. (i : ℕ) (d : _) → i < places → slice_index_or r.seats.items i d ≡ record { number = i + 1; front = opened rows.now.value.items; posted = 0; numbers = no_numbers }) }
     ensures same { IfOk result (λ _. grants.new ≡ grants.old) }
@@ -112,6 +116,9 @@ fn parts_of<J: Opening, W: Grow + Drop, R: Wait + Drop>(
         return Err(OpenError::Memory);
     };
     let Some(counted) = Counted::zeros(alloc, places) else {
+        return Err(OpenError::Memory);
+    };
+    let Ok(once) = Once::new(alloc) else {
         return Err(OpenError::Memory);
     };
     let front = scribe.front();
@@ -134,6 +141,7 @@ fn parts_of<J: Opening, W: Grow + Drop, R: Wait + Drop>(
         scribe,
         ledger,
         counted,
+        once,
         seats,
     })
 }
@@ -169,11 +177,12 @@ pub fn open_index<J: Opening, K: Keeper + Drop, W: Grow + Drop, R: Wait + Drop>(
     requires conf { conf ≡ J.conf }
     requires opening { J.opening ≡ opening_of (K.kept keeper) }
 
-    // Ok: the history is that of the rows that were read, all of it is published, and each seat has seen it.
+    // Ok: the history is that of the rows that were read, all of it is published, nothing is noted, and each seat has seen it.
     ensures rows { IfOk result (λ r. (rows : List KeptItem) × (r.0.accepted ≡ opened rows)) }
     ensures told { IsTrue (K.kept keeper).tells → IfOk result (λ r. r.0.accepted ≡ opened (told_rows (K.kept keeper))) }
     ensures bare { IsTrue (K.kept keeper).bare → IfOk result (λ r. r.0.accepted ≡ empty_history 0) }
     ensures published { IfOk result (λ r. (r.0.published ≡ r.0.accepted) × (r.0.start ≡ length_of r.0.accepted)) }
+    ensures noted { IfOk result (λ r. r.0.noted ≡ nothing_noted) }
     ensures all { IfOk result (λ r. length r.1.items ≡ places) }
     ensures each { IfOk result (λ r. (i : ℕ) (d : _) → i < places → slice_index_or r.1.items i d ≡ record { number = i + 1; front = r.0.accepted; posted = 0; numbers = no_numbers }) }
     ensures kept { IfOk result (λ r. IsPrepared conf (K.kept keeper) r.0.kept) }
@@ -191,6 +200,7 @@ pub fn open_index<J: Opening, K: Keeper + Drop, W: Grow + Drop, R: Wait + Drop>(
     ensures err { IfErr result (λ r. IsLeft conf (K.kept keeper) (K.kept r.keeper)) }
     ensures differs { IfErr result (λ r. (old now : KeptConf) → r.why ≡ ConfDiffers old now
         → (suits conf (Some old) ≡ false) × (now ≡ asked conf) × (K.kept r.keeper ≡ K.kept keeper)) }
+    ensures bad { IfErr result (λ r. (row : ℕ) → r.why ≡ KeptRow row → IsBadRow conf row) }
 
     // A history that the keeper keeps, whatever call failed last before, is resumed, or still kept.
     ensures again { (h : History) → IsTrue (K.kept keeper).tells → Keeps conf (K.kept keeper) h → IfOk result (λ r. Resumes conf r.0.accepted h) }
@@ -216,10 +226,11 @@ pub fn open_index<J: Opening, K: Keeper + Drop, W: Grow + Drop, R: Wait + Drop>(
                 scribe,
                 ledger,
                 counted,
+                once,
                 seats,
             } = parts;
             Ok((
-                Writer::new(alloc, copies, scribe, ledger, book, counted, &rows),
+                Writer::new(alloc, copies, scribe, ledger, book, counted, once, &rows),
                 seats,
             ))
         }

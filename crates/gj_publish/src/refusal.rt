@@ -36,3 +36,16 @@ pub enum PostError {
         counted: u64,
     },
 }
+
+/// Why a noted batch is not in the history, or not known to be shown. But for `Post(KeptUnseen)` nothing was accepted.
+#[derive(Clone, Copy, Debug, Drop, PartialEq, Eq)]
+pub enum NotedError {
+    /// It was refused as a batch without a number. Where it had entered before, this is `NoLook` or `Apart`.
+    Post(PostError),
+    /// It had entered at these places, and no memory was found to show what is owed, which may be this batch.
+    RepeatUnseen { receipt: Receipt },
+    /// It comes before the last one of its producer that entered, which has this number.
+    Old { last: u64 },
+    /// Some number between the last one's of its producer, which is this, and its own is missing.
+    Skipped { last: u64 },
+}

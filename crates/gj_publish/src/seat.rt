@@ -4,20 +4,22 @@ ghost use Rattle.std.specs.Fn.{FnOnceReturnsAt};
 ghost use Rattle.gj_base.specs.History.{Begins, StandsFor, conf_of, end_of, length_of};
 ghost use Rattle.gj_publish.specs.declared.refusal.NoLook.TheVariants.{Short};
 ghost use Rattle.gj_publish.specs.Answers.{after_look};
-ghost use Rattle.gj_publish.specs.Seats.{no_numbers, not_fitted, not_met, not_stored};
+ghost use Rattle.gj_publish.specs.Seats.{no_numbers, not_fitted, not_met, not_stored, after_verdict};
 
 use crate::counts::Counts;
 use crate::pane::Pane;
 use crate::refusal::NoLook;
 use gj_base::{Graph, Grow};
 use gj_log::{Front, Opening};
+use gj_once::Verdict;
 use left_right::ReadHandle;
 use std::marker::Model;
 use std::sync::ledger::{Book, Share};
 
 /// A reader's place, with what it has seen of the history. Contracts see its number, that beginning of the history, how
-/// many interactions it posted, and five numbers that no call shows: its looks, its refused looks, and its posts that
-/// were refused by a fault, by a full history and by `Apart`. A seat and a writer of one `J` are of one opening.
+/// many interactions it posted, and numbers that no call shows: its looks, its refused looks, its posts that were refused
+/// by a fault, by a full history and by `Apart`, and its noted posts by each verdict. A seat and a writer of one `J` are of
+/// one opening.
 #[derive(Drop)]
 pub struct Seat<W: Grow + Drop, J: Opening> {
     number: u32,
@@ -159,6 +161,13 @@ impl<W: Grow + Drop, J: Opening> Seat<W, J> {
         ensures { self.new ≡ record { number = self.old.number; front = self.old.front; posted = self.old.posted; numbers = not_met self.old.numbers } }
     {
         self.counts.refuse_apart();
+    }
+
+    // A noted batch was judged so.
+    pub(crate) fn judge(&mut self, verdict: Verdict)
+        ensures { self.new ≡ record { number = self.old.number; front = self.old.front; posted = self.old.posted; numbers = after_verdict verdict self.old.numbers } }
+    {
+        self.counts.judge(verdict);
     }
 
     // Its interactions enter the history.

@@ -1,30 +1,42 @@
 //! The one writer, which lies under a lock.
-ghost use Rattle.std.specs.Prelude.{◌≡◌, ◌+◌, ◌<◌, ◌≤◌, ◌^◌, true, ℕ, length, replicate, IfSome, OnOk, MatchBool};
+ghost use Rattle.std.specs.Prelude.{◌≡◌, ◌+◌, ◌<◌, ◌≤◌, ◌^◌, ◌≢◌, ◌⊎◌, true, ℕ, length, replicate, IfErr, IfSome, OnOk, MatchBool, MatchResult};
 ghost use Rattle.std.specs.List.{sum_by};
 ghost use Rattle.gj_base.specs.declared.history.History.{History};
-ghost use Rattle.gj_base.specs.History.{Begins, length_of};
+ghost use Rattle.gj_base.specs.History.{Begins, end_of, length_of};
 ghost use Rattle.gj_keep.specs.Books.{BookKeeps, Keeps};
 ghost use Rattle.gj_keep.specs.Rows.{opened};
+ghost use Rattle.gj_once.specs.Judging.{nothing_noted};
+ghost use Rattle.gj_publish.specs.declared.refusal.NoLook.TheVariants.{Short};
+ghost use Rattle.gj_publish.specs.declared.refusal.PostError.TheVariants.{NoLook, Apart};
+ghost use Rattle.gj_publish.specs.Answers.{IsUnmet, after_error};
 ghost use Rattle.gj_publish.specs.Posted.{posted};
-ghost use Rattle.gj_publish.specs.Writers.{ByNoSeat, RowsAre, by_seat};
+ghost use Rattle.gj_publish.specs.Seats.{looked};
+ghost use Rattle.gj_publish.specs.Writers.{AreWithin, ByNoSeat, RowsAre, by_seat};
 
 use crate::batch::Batch;
 use crate::copies::Copies;
 use crate::counted::Counted;
+use crate::refusal::PostError;
 use crate::seat::Seat;
 use gj_base::{Conf, Graph, Grow, Keeper, KeptItem, Memory};
 use gj_keep::Book;
 use gj_log::{Front, Opening, Scribe};
+use gj_once::Once;
 use std::alloc::Global;
 use std::marker::Model;
 use std::snapshot::Snapshot;
 use std::sync::ledger::{Book as Ledger, Share};
 
+mod lists;
+mod noted;
 mod posts;
 
+pub use lists::{Answer, SeatCall};
+
 /// Who accepts batches, keeps them and shows them. Contracts see the accepted history, of which the published one is a
-/// beginning; what is accepted and not published is owed, and is one batch at most. Under a lock its type still says that
-/// the keeper, where it tells its rows, keeps the accepted history, and that what each seat posted is counted.
+/// beginning; what is accepted and not published is owed, and is one batch at most. They see what is noted last of each
+/// producer too. Under a lock its type still says that the keeper, where it tells its rows, keeps the accepted history, that
+/// what each seat posted is counted, and that each noted batch ends in that history.
 #[derive(Drop)]
 pub struct Writer<J: Opening, C: Copies<Operation = Batch<J>>, K: Keeper + Drop> {
     alloc: Global,
@@ -36,18 +48,19 @@ pub struct Writer<J: Opening, C: Copies<Operation = Batch<J>>, K: Keeper + Drop>
     owed: Option<Batch<J>>,
     book: Book<K>,
     counted: Counted,
+    once: Once,
 }
 
 impl<J: Opening, C: Copies<Operation = Batch<J>>, K: Keeper + Drop> Model for Writer<J, C, K> {
     ghost use Rattle.std.specs.Prelude.{◌≡◌};
     ghost use Rattle.gj_publish.specs.Posted.{posted};
-    ghost use Rattle.gj_publish.specs.Writers.{WriterView, IsOwed, IsGrown, IsCounted};
+    ghost use Rattle.gj_publish.specs.Writers.{WriterView, AreWithin, IsOwed, IsGrown, IsCounted};
 
     ghost Value = { WriterView };
 
-    ghost view = { λ s. record { start = s.start; published = s.shown; accepted = s.scribe.history; ready = s.scribe.ready; kept = s.book.kept; faults = s.book.faults; steady = s.book.steady } };
+    ghost view = { λ s. record { start = s.start; published = s.shown; accepted = s.scribe.history; noted = s.once; ready = s.scribe.ready; kept = s.book.kept; faults = s.book.faults; steady = s.book.steady } };
 
-    ghost invariant = { λ s. C.quiet s.copies × ((h : _) (b : _) → C.applied h b ≡ posted h b) × (C.shown s.copies ≡ s.shown) × IsOwed s.shown s.scribe.history s.owed × IsGrown J.opening J.conf s.start s.ledger.total s.book s.scribe.opening s.scribe.history × IsCounted J.places s.counted s.scribe.history };
+    ghost invariant = { λ s. C.quiet s.copies × ((h : _) (b : _) → C.applied h b ≡ posted h b) × (C.shown s.copies ≡ s.shown) × IsOwed s.shown s.scribe.history s.owed × IsGrown J.opening J.conf s.start s.ledger.total s.book s.scribe.opening s.scribe.history × IsCounted J.places s.counted s.scribe.history × AreWithin s.once s.scribe.history };
 }
 
 impl<J: Opening, C: Copies<Operation = Batch<J>>, K: Keeper + Drop> Writer<J, C, K> {
@@ -59,6 +72,7 @@ impl<J: Opening, C: Copies<Operation = Batch<J>>, K: Keeper + Drop> Writer<J, C,
         ledger: Ledger<J>,
         book: Book<K>,
         counted: Counted,
+        once: Once,
         rows: &Snapshot<Vec<KeptItem>>,
     ) -> Writer<J, C, K>
         requires ledger { ledger.total ≡ 0 }
@@ -70,7 +84,8 @@ impl<J: Opening, C: Copies<Operation = Batch<J>>, K: Keeper + Drop> Writer<J, C,
         requires conf { book.conf ≡ J.conf }
         requires opening { IfSome J.opening (λ h. h ≡ opened rows.now.value.items) }
         requires counted { counted ≡ replicate J.places 0 }
-        ensures { result ≡ record { start = length_of scribe.history; published = scribe.history; accepted = scribe.history; ready = scribe.ready; kept = book.kept; faults = book.faults; steady = book.steady } }
+        requires once { once ≡ nothing_noted }
+        ensures { result ≡ record { start = length_of scribe.history; published = scribe.history; accepted = scribe.history; noted = once; ready = scribe.ready; kept = book.kept; faults = book.faults; steady = book.steady } }
     {
         let _ = rows;
         let shown = scribe.front();
@@ -84,16 +99,18 @@ impl<J: Opening, C: Copies<Operation = Batch<J>>, K: Keeper + Drop> Writer<J, C,
             owed: None,
             book,
             counted,
+            once,
         }
     }
 
-    /// The length of the accepted history. The published one is a beginning of it, and the keeper, where it tells its
-    /// rows, keeps it.
+    /// The length of the accepted history. The published one is a beginning of it, the keeper, where it tells its rows,
+    /// keeps it, and each noted batch ends in it.
     pub fn length(&self) -> u64
         ensures exact { result ≡ length_of self.now.accepted }
         ensures in_range { result ≤ 2 ^ 48 }
         ensures prefix { Begins self.now.published self.now.accepted }
         ensures kept { RowsAre J.conf self.now.kept self.now.accepted }
+        ensures within { AreWithin self.now.noted self.now.accepted }
     {
         self.scribe.length()
     }
@@ -129,7 +146,7 @@ impl<J: Opening, C: Copies<Operation = Batch<J>>, K: Keeper + Drop> Writer<J, C,
     pub fn confirm<W: Grow + Drop>(&mut self, seat: &Seat<W, J>) -> Result<(), Memory>
         ensures ok { OnOk result (Begins seat.now.front self.new.accepted) }
         ensures kept { RowsAre J.conf self.new.kept self.new.accepted }
-        ensures others { (self.new.accepted ≡ self.old.accepted) × (self.new.published ≡ self.old.published) × (self.new.start ≡ self.old.start) × (self.new.kept ≡ self.old.kept) × (self.new.faults ≡ self.old.faults) × (self.new.steady ≡ self.old.steady) }
+        ensures others { (self.new.accepted ≡ self.old.accepted) × (self.new.published ≡ self.old.published) × (self.new.noted ≡ self.old.noted) × (self.new.start ≡ self.old.start) × (self.new.kept ≡ self.old.kept) × (self.new.faults ≡ self.old.faults) × (self.new.steady ≡ self.old.steady) }
     {
         let ready = self.reserve();
         let _ = self.length();
@@ -181,13 +198,14 @@ impl<J: Opening, C: Copies<Operation = Batch<J>>, K: Keeper + Drop> Writer<J, C,
             owed: _owed,
             book,
             counted: _counted,
+            once: _once,
         } = self;
         book.into_keeper()
     }
 
     // Makes room in the log for one more batch. False where there is none.
     fn reserve(&mut self) -> bool
-        ensures same { (self.new.accepted ≡ self.old.accepted) × (self.new.published ≡ self.old.published) × (self.new.start ≡ self.old.start) × (self.new.kept ≡ self.old.kept) × (self.new.faults ≡ self.old.faults) × (self.new.steady ≡ self.old.steady) }
+        ensures same { (self.new.accepted ≡ self.old.accepted) × (self.new.published ≡ self.old.published) × (self.new.noted ≡ self.old.noted) × (self.new.start ≡ self.old.start) × (self.new.kept ≡ self.old.kept) × (self.new.faults ≡ self.old.faults) × (self.new.steady ≡ self.old.steady) }
         ensures ready { self.new.ready ≡ result }
     {
         self.scribe.reserve()
@@ -195,7 +213,7 @@ impl<J: Opening, C: Copies<Operation = Batch<J>>, K: Keeper + Drop> Writer<J, C,
 
     // Shows what is owed. False where no memory is found.
     fn show_owed(&mut self) -> bool
-        ensures same { (self.new.accepted ≡ self.old.accepted) × (self.new.ready ≡ self.old.ready) × (self.new.start ≡ self.old.start) × (self.new.kept ≡ self.old.kept) × (self.new.faults ≡ self.old.faults) × (self.new.steady ≡ self.old.steady) }
+        ensures same { (self.new.accepted ≡ self.old.accepted) × (self.new.noted ≡ self.old.noted) × (self.new.ready ≡ self.old.ready) × (self.new.start ≡ self.old.start) × (self.new.kept ≡ self.old.kept) × (self.new.faults ≡ self.old.faults) × (self.new.steady ≡ self.old.steady) }
         ensures shown { MatchBool result (self.new.published ≡ self.old.accepted) (self.new.published ≡ self.old.published) }
     {
         match self.owed.take() {
@@ -214,6 +232,41 @@ impl<J: Opening, C: Copies<Operation = Batch<J>>, K: Keeper + Drop> Writer<J, C,
                 }
             }
         }
+    }
+
+    // Looks at what is published, and tests whether seat and writer fit. Then the seat has seen just what is published.
+    fn meet<W: Grow + Drop>(&self, seat: &mut Seat<W, J>) -> Result<(), PostError>
+        ensures ok { OnOk result ((seat.new.front ≡ self.now.published) × (seat.old.posted ≡ by_seat seat.old.number self.now.accepted)) }
+        ensures began { OnOk result (Begins seat.old.front self.now.accepted) }
+
+        ensures unmet { IfErr result IsUnmet }
+        ensures no_look { IfErr result (λ e. (why : _) → e ≡ NoLook why → seat.new.front ≡ seat.old.front) }
+        ensures short { IfErr result (λ e. (seen shown : ℕ) → e ≡ NoLook (Short seen shown) → ((seen ≡ length_of seat.old.front) ⊎ (seen ≡ length_of self.now.published)) × (shown < seen) × ((x : W) × (end_of (W.shown x) ≡ shown))) }
+        ensures apart { IfErr result (λ why. (seen shown posted counted : _) → why ≡ Apart seen shown posted counted → (seen ≡ length_of seat.new.front) × (shown ≡ length_of self.now.published) × (posted ≡ seat.old.posted) × (counted ≡ by_seat seat.old.number self.now.accepted) × Begins self.now.published seat.new.front × ((shown < seen) ⊎ (posted ≢ counted))) }
+
+        ensures front { Begins seat.old.front seat.new.front }
+        ensures numbers { MatchResult result (λ _. seat.new.numbers ≡ looked seat.old.numbers) (λ why. seat.new.numbers ≡ after_error why seat.old.numbers) }
+        ensures others { (seat.new.number ≡ seat.old.number) × (seat.new.posted ≡ seat.old.posted) }
+    {
+        match seat.look_behind(&self.shown, |_: &W| ()) {
+            Err(why) => return Err(PostError::NoLook(why)),
+            Ok(()) => {}
+        }
+        let _ = self.length();
+        let seen = seat.seen();
+        let shown = self.shown.length();
+        let posted = seat.posted();
+        let counted = self.counted(seat.number());
+        if seen > shown || posted != counted {
+            seat.refuse_apart();
+            return Err(PostError::Apart {
+                seen,
+                shown,
+                posted,
+                counted,
+            });
+        }
+        Ok(())
     }
 
     // How many entries of the history the seat with this number posted.

@@ -8,6 +8,8 @@
 mod day;
 mod locked;
 #[cfg(test)]
+mod noted_tests;
+#[cfg(test)]
 mod tests;
 
 pub use day::one_day;

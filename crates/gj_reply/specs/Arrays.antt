@@ -2,6 +2,7 @@
 use Rattle.std.specs.Prelude.{ℕ, zero, suc, List, [], ◌∷◌, ◌++◌, codes, map}
 use Rattle.std.specs.List.{flat_map}
 use Rattle.std.specs.Fmt.{decimal}
+use Rattle.gj_base.specs.Interaction.{Interaction}
 use Rattle.gj_base.specs.Kinds.{kind_name}
 use Rattle.gj_proof.specs.declared.ranked.Ranked.{Ranked}
 use Rattle.gj_reply.specs.declared.edge.EdgeOf.{EdgeOf}
@@ -35,6 +36,12 @@ score_text score =
 -- a recent interaction, with the name of the side that it leads to
 abbrev pub edge_text : List ℕ → EdgeOf → List ℕ
 edge_text across edge = across ++ decimal edge.id ++ codes ",\"kind\":\"" ++ kind_name edge.kind ++ codes "\"}"
+
+-- an interaction of the history
+abbrev pub item_text : Interaction → List ℕ
+item_text item =
+    codes "{\"user\":" ++ decimal item.user ++ codes ",\"post\":" ++ decimal item.post ++ codes ",\"kind\":\""
+    ++ kind_name item.kind ++ codes "\",\"at\":" ++ decimal item.at ++ codes "}"
 
 -- the comma in front of the member at a place
 abbrev pub comma_at : ℕ → List ℕ

@@ -4,16 +4,22 @@ use Rattle.std.specs.Fmt.{decimal}
 use Rattle.gj_proof.specs.declared.ranked.Ranked.{Ranked}
 use Rattle.gj_request.specs.Names.{name_text}
 use Rattle.gj_base.specs.Configuration.{Configuration}
-use Rattle.gj_reply.specs.Arrays.{array, ranked_text, score_text, edge_text}
+use Rattle.gj_base.specs.Interaction.{Interaction}
+use Rattle.gj_reply.specs.Arrays.{array, ranked_text, score_text, edge_text, item_text}
 use Rattle.gj_reply.specs.declared.edge.EdgeOf.{EdgeOf}
 use Rattle.gj_reply.specs.declared.reply.KindCounts.{KindCounts}
 use Rattle.gj_reply.specs.declared.reply.Reply.{Reply}
-use Rattle.gj_reply.specs.declared.reply.Reply.TheVariants.{Posted, Full, Behind, Store, Apart, Walk, Subgraph, Similar, Count, User, Post, Stats, BadJson, BadField, BadRange, NoRoute, OnlyGet, OnlyPost, BadHead, HeadLong, Coded, BadLength, BodyLong}
+use Rattle.gj_reply.specs.declared.reply.Reply.TheVariants.{Posted, Repeated, Old, Skipped, Full, Behind, Store, Apart, Walk, Subgraph, Similar, Count, User, Post, Stats, Log, Gone, Ahead, BadJson, BadField, BadRange, NoRoute, OnlyGet, OnlyPost, BadHead, HeadLong, Coded, BadLength, BodyLong}
 use Rattle.gj_similar.specs.Scored.{Scored}
 
 -- the body of a post
 abbrev pub posted_text : ℕ → ℕ → List ℕ
 posted_text from length = codes "{\"from\":" ++ decimal from ++ codes ",\"length\":" ++ decimal length ++ codes "}"
+
+-- the body of a batch that entered before
+abbrev pub repeated_text : ℕ → ℕ → List ℕ
+repeated_text from length =
+    codes "{\"from\":" ++ decimal from ++ codes ",\"length\":" ++ decimal length ++ codes ",\"repeated\":true}"
 
 -- the body of a ranking, by visits, by units or by weight
 abbrev pub ranking_text : List ℕ → ℕ → List Ranked → List ℕ
@@ -49,6 +55,17 @@ stats_text length base conf kinds =
     codes "{\"length\":" ++ decimal length ++ codes ",\"base\":" ++ decimal base ++ conf_text conf
     ++ codes ",\"kinds\":" ++ kinds_text kinds ++ codes "}"
 
+-- the body of a page of the history
+abbrev pub log_text : ℕ → ℕ → List Interaction → List ℕ
+log_text length from items =
+    codes "{\"length\":" ++ decimal length ++ codes ",\"from\":" ++ decimal from ++ codes ",\"items\":"
+    ++ array (map item_text items) ++ codes "}"
+
+-- the body of a place before the window
+abbrev pub gone_text : ℕ → ℕ → List ℕ
+gone_text length base =
+    codes "{\"error\":\"gone\",\"length\":" ++ decimal length ++ codes ",\"base\":" ++ decimal base ++ codes "}"
+
 -- the body of a writer and a published history that do not agree
 abbrev pub apart_text : ℕ → ℕ → ℕ → ℕ → List ℕ
 apart_text seen shown posted counted =
@@ -58,6 +75,7 @@ apart_text seen shown posted counted =
 -- the body of a reply
 abbrev pub body_of : Reply → List ℕ
 body_of (Posted from length) = posted_text from length
+body_of (Repeated from length) = repeated_text from length
 body_of (Walk length results) = ranking_text (codes ",\"visits\":") length results
 body_of (Subgraph length results) = ranking_text (codes ",\"units\":") length results
 body_of (Similar length results) = similar_text length results
@@ -67,6 +85,11 @@ body_of (User length id degree recent) =
 body_of (Post length id degree recent) =
     vertex_text (codes ",\"post\":") (codes "{\"user\":") length id degree recent
 body_of (Stats length base conf kinds) = stats_text length base conf kinds
+body_of (Log length from items) = log_text length from items
+body_of (Old last) = codes "{\"error\":\"old\",\"last\":" ++ decimal last ++ codes "}"
+body_of (Skipped last) = codes "{\"error\":\"skipped\",\"last\":" ++ decimal last ++ codes "}"
+body_of (Gone length base) = gone_text length base
+body_of (Ahead length) = codes "{\"error\":\"ahead\",\"length\":" ++ decimal length ++ codes "}"
 body_of (Behind length) = codes "{\"error\":\"behind\",\"length\":" ++ decimal length ++ codes "}"
 body_of (Full length) = codes "{\"error\":\"full\",\"length\":" ++ decimal length ++ codes "}"
 body_of Store = codes "{\"error\":\"store\"}"

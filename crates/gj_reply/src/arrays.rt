@@ -1,11 +1,11 @@
 //! Arrays of a body.
 ghost use Rattle.std.specs.Prelude.{◌≡◌, ◌++◌, map, OnOk};
 ghost use Rattle.std.specs.Fmt.{decimal};
-ghost use Rattle.gj_reply.specs.Arrays.{array, edge_text, ranked_text, score_text};
+ghost use Rattle.gj_reply.specs.Arrays.{array, edge_text, item_text, ranked_text, score_text};
 
 use crate::edge::EdgeOf;
-use crate::pieces::{put, put_comma, put_member, put_number};
-use gj_base::Memory;
+use crate::pieces::{put, put_comma, put_member, put_number, put_two};
+use gj_base::{Item, Memory};
 use gj_proof::Ranked;
 use gj_similar::Score;
 
@@ -88,6 +88,29 @@ pub(crate) fn put_edges(out: &mut Vec<u8>, across: &str, recent: &[EdgeOf]) -> R
     for (i, edge) in recent.iter().enumerate() {
         put_comma(out, i)?;
         put_edge(out, across, edge)?;
+    }
+    put(out, "]")
+}
+
+/// Appends an interaction of the history.
+pub(crate) fn put_item(out: &mut Vec<u8>, item: &Item) -> Result<(), Memory>
+    ensures { OnOk result (out.new.items ≡ out.old.items ++ item_text item.now) }
+{
+    put_two(out, "{\"user\":", item.user, ",\"post\":", item.post)?;
+    put(out, ",\"kind\":\"")?;
+    put(out, item.kind.name())?;
+    put_member(out, "\",\"at\":", item.at)?;
+    put(out, "}")
+}
+
+/// Appends an array of interactions.
+pub(crate) fn put_items(out: &mut Vec<u8>, items: &[Item]) -> Result<(), Memory>
+    ensures { OnOk result (out.new.items ≡ out.old.items ++ array (map item_text items.now)) }
+{
+    put(out, "[")?;
+    for (i, item) in items.iter().enumerate() {
+        put_comma(out, i)?;
+        put_item(out, item)?;
     }
     put(out, "]")
 }

@@ -1,14 +1,14 @@
 //! The bodies of replies.
 ghost use Rattle.std.specs.Prelude.{◌≡◌, ◌++◌, OnOk, codes};
 ghost use Rattle.std.specs.Fmt.{decimal};
-ghost use Rattle.gj_reply.specs.Bodies.{apart_text, body_of, conf_text, kinds_text, posted_text, ranking_text, similar_text, stats_text, vertex_text};
+ghost use Rattle.gj_reply.specs.Bodies.{apart_text, body_of, conf_text, gone_text, kinds_text, log_text, posted_text, ranking_text, repeated_text, similar_text, stats_text, vertex_text};
 ghost use Rattle.gj_request.specs.Names.{name_text};
 
-use crate::arrays::{put_edges, put_ranking, put_scores};
+use crate::arrays::{put_edges, put_items, put_ranking, put_scores};
 use crate::edge::EdgeOf;
 use crate::pieces::{put, put_member, put_two};
 use crate::reply::{KindCounts, Reply};
-use gj_base::{Conf, Memory};
+use gj_base::{Conf, Item, Memory};
 use gj_proof::Ranked;
 use gj_request::Name;
 use gj_similar::Score;
@@ -21,11 +21,18 @@ fn put_posted(out: &mut Vec<u8>, from: u64, length: u64) -> Result<(), Memory>
     put(out, "}")
 }
 
-/// Appends what begins with the text, and ends with the length.
-fn put_length(out: &mut Vec<u8>, text: &str, length: u64) -> Result<(), Memory>
-    ensures { OnOk result (out.new.items ≡ out.old.items ++ (text.now ++ decimal length ++ codes "}")) }
+fn put_repeated(out: &mut Vec<u8>, from: u64, length: u64) -> Result<(), Memory>
+    ensures { OnOk result (out.new.items ≡ out.old.items ++ repeated_text from length) }
 {
-    put_member(out, text, length)?;
+    put_two(out, "{\"from\":", from, ",\"length\":", length)?;
+    put(out, ",\"repeated\":true}")
+}
+
+/// Appends what begins with the text, and ends with the number.
+fn put_last(out: &mut Vec<u8>, text: &str, number: u64) -> Result<(), Memory>
+    ensures { OnOk result (out.new.items ≡ out.old.items ++ (text.now ++ decimal number ++ codes "}")) }
+{
+    put_member(out, text, number)?;
     put(out, "}")
 }
 
@@ -139,6 +146,28 @@ fn put_stats(
     put(out, "}")
 }
 
+fn put_log(out: &mut Vec<u8>, length: u64, from: u64, items: &[Item]) -> Result<(), Memory>
+    ensures { OnOk result (out.new.items ≡ out.old.items ++ log_text length from items.now) }
+{
+    put_two(out, "{\"length\":", length, ",\"from\":", from)?;
+    put(out, ",\"items\":")?;
+    put_items(out, items)?;
+    put(out, "}")
+}
+
+fn put_gone(out: &mut Vec<u8>, length: u64, base: u64) -> Result<(), Memory>
+    ensures { OnOk result (out.new.items ≡ out.old.items ++ gone_text length base) }
+{
+    put_two(
+        out,
+        "{\"error\":\"gone\",\"length\":",
+        length,
+        ",\"base\":",
+        base,
+    )?;
+    put(out, "}")
+}
+
 /// Appends a refusal that begins with the text, and names a field.
 fn put_named(out: &mut Vec<u8>, text: &str, name: Name) -> Result<(), Memory>
     ensures { OnOk result (out.new.items ≡ out.old.items ++ (text.now ++ name_text name ++ codes "\"}")) }
@@ -154,8 +183,11 @@ pub(crate) fn put_reply(out: &mut Vec<u8>, reply: &Reply) -> Result<(), Memory>
 {
     match reply {
         Reply::Posted { from, length } => put_posted(out, *from, *length),
-        Reply::Full { length } => put_length(out, "{\"error\":\"full\",\"length\":", *length),
-        Reply::Behind { length } => put_length(out, "{\"error\":\"behind\",\"length\":", *length),
+        Reply::Repeated { from, length } => put_repeated(out, *from, *length),
+        Reply::Old { last } => put_last(out, "{\"error\":\"old\",\"last\":", *last),
+        Reply::Skipped { last } => put_last(out, "{\"error\":\"skipped\",\"last\":", *last),
+        Reply::Full { length } => put_last(out, "{\"error\":\"full\",\"length\":", *length),
+        Reply::Behind { length } => put_last(out, "{\"error\":\"behind\",\"length\":", *length),
         Reply::Store => put(out, "{\"error\":\"store\"}"),
         Reply::Apart {
             seen,
@@ -220,6 +252,13 @@ pub(crate) fn put_reply(out: &mut Vec<u8>, reply: &Reply) -> Result<(), Memory>
             conf,
             kinds,
         } => put_stats(out, *length, *base, *conf, kinds),
+        Reply::Log {
+            length,
+            from,
+            items,
+        } => put_log(out, *length, *from, items.as_slice()),
+        Reply::Gone { length, base } => put_gone(out, *length, *base),
+        Reply::Ahead { length } => put_last(out, "{\"error\":\"ahead\",\"length\":", *length),
         Reply::BadJson => put(out, "{\"error\":\"json\"}"),
         Reply::BadField(name) => put_named(out, "{\"error\":\"field\",\"name\":\"", *name),
         Reply::BadRange(name) => put_named(out, "{\"error\":\"range\",\"name\":\"", *name),

@@ -1,7 +1,7 @@
 //! Replies.
 
 use crate::edge::EdgeList;
-use gj_base::Conf;
+use gj_base::{Conf, ItemList};
 use gj_proof::RankedList;
 use gj_request::Name;
 use gj_similar::ScoreList;
@@ -23,6 +23,19 @@ pub enum Reply {
     Posted {
         from: u64,
         length: u64,
+    },
+    /// The batch entered the history before, at this place, by the same number of its producer. `length` is where it ended.
+    Repeated {
+        from: u64,
+        length: u64,
+    },
+    /// The producer's last batch has this number, which is above the batch's.
+    Old {
+        last: u64,
+    },
+    /// The producer's last batch has this number, and one between it and the batch's is missing.
+    Skipped {
+        last: u64,
     },
     /// The batch would pass the length that no history passes.
     Full {
@@ -81,6 +94,21 @@ pub enum Reply {
         base: u64,
         conf: Conf,
         kinds: KindCounts,
+    },
+    /// The interactions from a place on, all or the first 1000.
+    Log {
+        length: u64,
+        from: u64,
+        items: ItemList,
+    },
+    /// The place lies before the window, which begins at `base`.
+    Gone {
+        length: u64,
+        base: u64,
+    },
+    /// The place lies after the history.
+    Ahead {
+        length: u64,
     },
     /// The body has no reading as JSON.
     BadJson,

@@ -15,6 +15,7 @@ pub(crate) fn room_for(reply: &Reply) -> usize {
         Reply::User { recent, .. } | Reply::Post { recent, .. } => {
             FRAME.saturating_add(recent.len().saturating_mul(MEMBER))
         }
+        Reply::Log { items, .. } => FRAME.saturating_add(items.len().saturating_mul(ITEM)),
         _ => FRAME,
     }
 }
@@ -24,6 +25,9 @@ const FRAME: usize = 320;
 
 /// The room of the longest member of an array, without the proof.
 const MEMBER: usize = 96;
+
+/// The room of an interaction of the history, and a comma.
+const ITEM: usize = 104;
 
 /// The room of an identifier and a comma.
 const ID: usize = 21;

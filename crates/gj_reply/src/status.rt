@@ -13,7 +13,8 @@ pub enum Status {
     OnlyGet,
     /// 405: the path's route takes POST alone.
     OnlyPost,
-    /// 409: the history is too short for the ask, or full.
+    /// 409: the history is full, too short for the ask or past the place that it asks for, or the batch's number is not its
+    /// producer's next.
     Conflict,
     /// 413: the body is above the largest length.
     TooLarge,

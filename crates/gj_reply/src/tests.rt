@@ -1,7 +1,7 @@
 //! Each text of a reply once, and each fixed body.
 
 use crate::{EdgeList, EdgeOf, Fixed, KindCounts, Reply, Status, fixed_body, write_reply};
-use gj_base::{Conf, IdList, Kind, List};
+use gj_base::{Conf, IdList, Item, ItemList, Kind, List};
 use gj_proof::{Ranked, RankedList};
 use gj_request::Name;
 use gj_similar::{Score, ScoreList};
@@ -58,6 +58,25 @@ fn a_post_has_its_place_and_the_length(rt: HostRuntime) {
     };
     let body = "{\"from\":18446744073709551615,\"length\":0}";
     expect_text(&rt, rt.alloc(), &posted, Status::Ok, body);
+}
+
+#[test]
+fn a_batch_is_told_what_became_of_its_number(rt: HostRuntime) {
+    let alloc = rt.alloc();
+    let repeated = Reply::Repeated { from: 0, length: 1 };
+    let body = "{\"from\":0,\"length\":1,\"repeated\":true}";
+    expect_text(&rt, alloc, &repeated, Status::Ok, body);
+    let old = Reply::Old { last: 2 };
+    expect_text(
+        &rt,
+        alloc,
+        &old,
+        Status::Conflict,
+        "{\"error\":\"old\",\"last\":2}",
+    );
+    let skipped = Reply::Skipped { last: 1 };
+    let body = "{\"error\":\"skipped\",\"last\":1}";
+    expect_text(&rt, alloc, &skipped, Status::Conflict, body);
 }
 
 #[test]
@@ -158,6 +177,50 @@ fn the_numbers_of_a_window_have_its_kinds(rt: HostRuntime) {
     let body = "{\"length\":33,\"base\":16,\"capacity\":16,\"segments\":2,\
         \"kinds\":{\"click\":17,\"favorite\":1,\"retweet\":2,\"reply\":3,\"tweet\":4}}";
     expect_text(&rt, rt.alloc(), &stats, Status::Ok, body);
+}
+
+#[test]
+fn a_page_has_its_place_and_its_interactions(rt: HostRuntime) -> Result<(), Fail> {
+    let alloc = rt.alloc();
+    let none = Reply::Log {
+        length: 1,
+        from: 1,
+        items: ItemList::new(alloc),
+    };
+    let body = "{\"length\":1,\"from\":1,\"items\":[]}";
+    expect_text(&rt, alloc, &none, Status::Ok, body);
+    let mut items = ItemList::new(alloc);
+    for (user, post, kind, at) in [
+        (1, 10, Kind::Favorite, 0),
+        (9_223_372_036_854_775_807, 0, Kind::Tweet, 9),
+    ] {
+        let item = Item::make(user, post, kind, at);
+        items.push(item.expect(&rt, "these are in their ranges"))?;
+    }
+    let both = Reply::Log {
+        length: 3,
+        from: 1,
+        items,
+    };
+    let body =
+        "{\"length\":3,\"from\":1,\"items\":[{\"user\":1,\"post\":10,\"kind\":\"favorite\",\"at\":0},\
+        {\"user\":9223372036854775807,\"post\":0,\"kind\":\"tweet\",\"at\":9}]}";
+    expect_text(&rt, alloc, &both, Status::Ok, body);
+    Ok(())
+}
+
+#[test]
+fn a_place_that_no_page_begins_at_is_told_where_pages_begin(rt: HostRuntime) {
+    let alloc = rt.alloc();
+    let gone = Reply::Gone {
+        length: 33,
+        base: 16,
+    };
+    let body = "{\"error\":\"gone\",\"length\":33,\"base\":16}";
+    expect_text(&rt, alloc, &gone, Status::Conflict, body);
+    let ahead = Reply::Ahead { length: 1 };
+    let body = "{\"error\":\"ahead\",\"length\":1}";
+    expect_text(&rt, alloc, &ahead, Status::Conflict, body);
 }
 
 #[test]

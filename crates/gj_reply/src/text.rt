@@ -46,14 +46,21 @@ fn status_for(reply: &Reply) -> Status
 {
     match reply {
         Reply::Posted { .. }
+        | Reply::Repeated { .. }
         | Reply::Walk { .. }
         | Reply::Subgraph { .. }
         | Reply::Similar { .. }
         | Reply::Count { .. }
         | Reply::User { .. }
         | Reply::Post { .. }
-        | Reply::Stats { .. } => Status::Ok,
-        Reply::Full { .. } | Reply::Behind { .. } => Status::Conflict,
+        | Reply::Stats { .. }
+        | Reply::Log { .. } => Status::Ok,
+        Reply::Old { .. }
+        | Reply::Skipped { .. }
+        | Reply::Full { .. }
+        | Reply::Behind { .. }
+        | Reply::Gone { .. }
+        | Reply::Ahead { .. } => Status::Conflict,
         Reply::Store | Reply::Apart { .. } => Status::Unavailable,
         Reply::BadJson
         | Reply::BadField(_)

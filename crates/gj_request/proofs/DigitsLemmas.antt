@@ -9,7 +9,7 @@ use Rattle.std.specs.Float.Numeral.{Parts, scan_numeral, IsWellFormed}
 use Rattle.std.proofs.lemmas.Float.Parse.{scan_numeral-text_of}
 use Rattle.serde_json.specs.Data.{unsigned}
 use Rattle.serde_json.specs.Read.{number_of}
-use Rattle.gj_request.specs.Plain.{Spells}
+use Rattle.gj_request.specs.PlainItems.{Spells}
 use Rattle.gj_request.proofs.SeedLemmas.{both}
 
 digit : (c : ℕ) → is_ascii_digit c ≡ true → (digit_value c < 10) × (digit_value c ≡ c - 48) × ((c ≡ 45) → ⊥)

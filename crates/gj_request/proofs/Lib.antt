@@ -4,6 +4,7 @@ pub mod EachLemmas
 pub mod KindLemmas
 pub mod NamesLemmas
 pub mod PlainBatchLemmas
+pub mod PlainItemsLemmas
 pub mod PlainLemmas
 pub mod SeedLemmas
 pub mod TakenLemmas

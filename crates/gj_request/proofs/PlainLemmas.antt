@@ -15,10 +15,10 @@ use Rattle.gj_base.specs.declared.kind.Kind.{Kind}
 use Rattle.gj_base.specs.Kinds.{kind_name}
 use Rattle.gj_request.specs.Names.{name_text}
 use Rattle.gj_request.specs.Tables.{Row, is_known, are_known, item_rows}
-use Rattle.gj_request.specs.Plain.{AddsNumber, AddsKind, AddsPart}
+use Rattle.gj_request.specs.PlainItems.{AddsNumber, AddsKind, AddsPart}
 use Rattle.gj_request.specs.declared.name.Name.{Name}
 use Rattle.gj_request.specs.declared.name.Name.TheVariants as names
-use Rattle.gj_request.specs.declared.plain.Parts.{Parts}
+use Rattle.gj_request.specs.declared.plain_items.Parts.{Parts}
 use Rattle.gj_request.proofs.DigitsLemmas.{number_of-digits}
 use Rattle.gj_request.proofs.SeedLemmas.{both}
 
@@ -31,7 +31,7 @@ and : (a b : Bool) → a ≡ true → b ≡ true → (a && b) ≡ true
 and a b p q = rw (p, q) refl
 
 -- a name that is known, put among known ones
-known_put : (known : List Name) (name : List ℕ) (d : Data) (ms : Members) → is_known known name ≡ true → are_known known ms ≡ true → are_known known (put name d ms) ≡ true
+pub known_put : (known : List Name) (name : List ℕ) (d : Data) (ms : Members) → is_known known name ≡ true → are_known known ms ≡ true → are_known known (put name d ms) ≡ true
 known_put known name d no_members is h = and _ _ is refl
 known_put known name d (member other e ms) is h =
     let parts = both _ _ h in
@@ -56,10 +56,10 @@ pub record Holds (found : Members) (parts : Parts) : Type 0 where
   pub at : HasNumber found (name_text names.At) parts.at
   pub known : are_known known_names found ≡ true
 
-apart : (a b : Name) → bytes_eq (name_text a) (name_text b) ≡ false → name_text a ≡ name_text b → ⊥
+pub apart : (a b : Name) → bytes_eq (name_text a) (name_text b) ≡ false → name_text a ≡ name_text b → ⊥
 apart a b differ e = false≢true (sym differ ∙ (bytes_eq-Decides (name_text a) (name_text b)).1 e)
 
-number_stays : (found : Members) (a b : Name) (d : Data) (o : Option ℕ) → bytes_eq (name_text a) (name_text b) ≡ false → HasNumber found (name_text a) o → HasNumber (put (name_text b) d found) (name_text a) o
+pub number_stays : (found : Members) (a b : Name) (d : Data) (o : Option ℕ) → bytes_eq (name_text a) (name_text b) ≡ false → HasNumber found (name_text a) o → HasNumber (put (name_text b) d found) (name_text a) o
 number_stays found a b d None differ h = get_member-put_other (name_text a) (name_text b) d found (apart a b differ) ∙ h
 number_stays found a b d (Some n) differ h = (get_member-put_other (name_text a) (name_text b) d found (apart a b differ) ∙ h.0, h.1)
 

@@ -2,10 +2,13 @@
 use Rattle.std.proofs.Common.{◌≡◌, ℕ, List, [], ◌∷◌, ◌++◌, Option, Some, None, IfSome, sym, ap, subst, ◌∙◌, append_assoc, append-nil}
 use Rattle.json.specs.Json.{object, no_items, item, no_members, member}
 use Rattle.json.specs.Token.{Token, begin_object, end_object, end_array, key}
-use Rattle.json.specs.Tree.{items_tokens, members_tokens}
+use Rattle.json.specs.Tree.{json_tokens, items_tokens, members_tokens}
 use Rattle.gj_base.specs.Interaction.{Interaction}
-use Rattle.gj_request.specs.Plain.{AreAll, no_parts, TakesPart, TakesItem, TakesItems}
-use Rattle.gj_request.specs.declared.plain.Parts.{Parts}
+use Rattle.gj_base.specs.declared.ask.Ask.{Ask}
+use Rattle.gj_request.specs.Plain.{IsWhole, no_fields, TakesField, TakesFields}
+use Rattle.gj_request.specs.PlainItems.{AreAll, no_parts, TakesPart, TakesItem, TakesItems}
+use Rattle.gj_request.specs.declared.plain.BatchParts.{BatchParts}
+use Rattle.gj_request.specs.declared.plain_items.Parts.{Parts}
 
 pub if_some : {A : Type 0} (o : Option A) (P Q : A → Type 0) → ((a : A) → P a → Q a) → IfSome o P → IfSome o Q
 if_some None P Q more h = h
@@ -35,3 +38,16 @@ more_taken start old mid new xs x p one goes more rest t =
 
 pub items_taken : (start old new : List Token) (xs : List Interaction) → old ≡ end_array ∷ new → GoOn start old xs → TakesItems start xs new
 items_taken start old new xs p goes = subst (λ all. TakesItems start all new) (append-nil xs) (goes [] new (no_items, p, tt))
+
+-- what completes the fields from here on completes the batch from its start
+abbrev pub FieldsGoOn : List Token → List Token → BatchParts → Type 0
+FieldsGoOn start now parts = (ask : Ask) (rest : List Token) → TakesFields parts now ask rest → TakesFields no_fields start ask rest
+
+pub field_taken : (start old mid new : List Token) (parts more : BatchParts) (name : List ℕ) → old ≡ key name ∷ mid → TakesField parts name mid more new → FieldsGoOn start old parts → FieldsGoOn start new more
+field_taken start old mid new parts more name p field go ask rest t =
+    let value = json_tokens field.0 in
+    let tokens : mid ≡ (value ++ members_tokens t.0) ++ rest = field.1 ∙ ap (λ ts. value ++ ts) t.1 ∙ sym (append_assoc value (members_tokens t.0) rest) in
+    go ask rest (member name field.0 t.0, p ∙ ap (λ ts. key name ∷ ts) tokens, (more, field.2, t.2))
+
+pub fields_taken : (start old new : List Token) (parts : BatchParts) (ask : Ask) → old ≡ end_object ∷ new → IsWhole parts ask → FieldsGoOn start old parts → TakesFields no_fields start ask new
+fields_taken start old new parts ask p whole go = go ask new (no_members, p, whole)

@@ -2,6 +2,7 @@ pub mod Counts
 pub mod Forms
 pub mod Names
 pub mod Plain
+pub mod PlainItems
 pub mod Requests
 pub mod Results
 pub mod SeenIds

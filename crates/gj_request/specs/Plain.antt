@@ -1,74 +1,54 @@
--- The plain form of a batch: which tokens of a JSON text stand for which interactions. Own.
-use Rattle.std.specs.Prelude.{◌≡◌, ℕ, ◌++◌, ◌≤◌, ◌⊎◌, ⊤, true, List, [], ◌∷◌, length, Some, None, unwrap_or}
+-- The plain form of a batch: which tokens of a JSON text ask for which batch. Own.
+use Rattle.std.specs.Prelude.{◌≡◌, ℕ, ◌++◌, ◌≤◌, ◌⊎◌, List, length, Some, None, unwrap_or, Ok}
 use Rattle.json.specs.Token.{Token}
 use Rattle.json.specs.Json as json
-use Rattle.json.specs.Tree.{json_tokens, items_tokens, members_tokens}
-use Rattle.gj_base.specs.declared.kind.Kind.{Kind}
+use Rattle.json.specs.Tree.{json_tokens, members_tokens}
+use Rattle.gj_base.specs.declared.ask.Ask.{Ask}
 use Rattle.gj_base.specs.Interaction.{Interaction}
-use Rattle.gj_base.specs.Kinds.{kind_name}
 use Rattle.gj_request.specs.Names.{name_text}
-use Rattle.gj_request.specs.Requests.{are_digits, digits_value}
+use Rattle.gj_request.specs.PlainItems.{Spells, ArePlain}
+use Rattle.gj_request.specs.Requests.{batch_ask}
 use Rattle.gj_request.specs.declared.name.Name.TheVariants as names
-use Rattle.gj_request.specs.declared.plain.Parts.{Parts}
-
--- digits alone, which spell a number in range
-abbrev pub Spells : List ℕ → ℕ → Type 0
-Spells text n = (are_digits text ≡ true) × (digits_value text ≡ n) × (n ≤ 9223372036854775807)
+use Rattle.gj_request.specs.declared.plain.BatchParts.{BatchParts}
 
 -- the part of this name, which was not there before; the others stay
-abbrev pub AddsNumber : Parts → List ℕ → ℕ → Parts → Type 0
+abbrev pub AddsNumber : BatchParts → List ℕ → ℕ → BatchParts → Type 0
 AddsNumber old name n new =
-    ((name ≡ name_text names.User) × (old.user ≡ None) × (new ≡ record old { user = Some n }))
-    ⊎ (((name ≡ name_text names.Post) × (old.post ≡ None) × (new ≡ record old { post = Some n }))
-    ⊎ ((name ≡ name_text names.At) × (old.at ≡ None) × (new ≡ record old { at = Some n })))
+    ((name ≡ name_text names.Producer) × (old.producer ≡ None) × (new ≡ record old { producer = Some n }))
+    ⊎ ((name ≡ name_text names.Number) × (old.number ≡ None) × (new ≡ record old { number = Some n }))
 
-abbrev pub AddsKind : Parts → List ℕ → Kind → Parts → Type 0
-AddsKind old name kind new = (name ≡ name_text names.Kind) × (old.kind ≡ None) × (new ≡ record old { kind = Some kind })
+abbrev pub AddsItems : BatchParts → List ℕ → List Interaction → BatchParts → Type 0
+AddsItems old name items new = (name ≡ name_text names.Items) × (old.items ≡ None) × (new ≡ record old { items = Some items })
 
-abbrev pub AddsPart : Parts → List ℕ → json.Json → Parts → Type 0
-AddsPart old name (json.number text) new = (n : ℕ) × Spells text n × AddsNumber old name n new
-AddsPart old name (json.string text) new = (kind : Kind) × (text ≡ kind_name kind) × AddsKind old name kind new
-AddsPart old name _ new = ⊥
+abbrev pub AddsField : BatchParts → List ℕ → json.Json → BatchParts → Type 0
+AddsField old name (json.number text) new = (n : ℕ) × Spells text n × AddsNumber old name n new
+AddsField old name (json.array values) new = (items : List Interaction) × ArePlain values items × AddsItems old name items new
+AddsField old name _ new = ⊥
 
--- the parts of an interaction; no moment is 0
-abbrev pub AreAll : Parts → Interaction → Type 0
-AreAll parts x = (parts.user ≡ Some x.user) × (parts.post ≡ Some x.post) × (parts.kind ≡ Some x.kind) × (unwrap_or parts.at 0 ≡ x.at)
+-- the parts of a batch, in range; no producer and no number are 0
+abbrev pub IsBatch : List Interaction → ℕ → ℕ → Ask → Type 0
+IsBatch items producer number ask =
+    (1 ≤ length items) × (length items ≤ 4096) × (producer ≤ 1024) × (number ≤ 281474976710656) × (batch_ask items producer number ≡ Ok ask)
+
+abbrev pub IsWhole : BatchParts → Ask → Type 0
+IsWhole parts ask = (items : List Interaction) × (parts.items ≡ Some items) × IsBatch items (unwrap_or parts.producer 0) (unwrap_or parts.number 0) ask
 
 -- fields that add, one after another, the parts that are missing
-abbrev pub Completes : Parts → json.Members → Interaction → Type 0
-Completes parts json.no_members x = AreAll parts x
-Completes parts (json.member name value fields) x = (more : Parts) × AddsPart parts name value more × Completes more fields x
+abbrev pub Completes : BatchParts → json.Members → Ask → Type 0
+Completes parts json.no_members ask = IsWhole parts ask
+Completes parts (json.member name value fields) ask = (more : BatchParts) × AddsField parts name value more × Completes more fields ask
 
-abbrev pub no_parts : Parts
-no_parts = record { user = None; post = None; kind = None; at = None }
+abbrev pub no_fields : BatchParts
+no_fields = record { items = None; producer = None; number = None }
 
--- an element: its fields in any order, each once
-abbrev pub IsPlainItem : json.Json → Interaction → Type 0
-IsPlainItem (json.object fields) x = Completes no_parts fields x
-IsPlainItem _ x = ⊥
+-- the tokens of a whole batch in the plain form: its fields in any order, each once
+abbrev pub IsPlain : List Token → Ask → Type 0
+IsPlain tokens ask = (fields : json.Members) × (tokens ≡ json_tokens (json.object fields)) × Completes no_fields fields ask
 
--- the elements in order
-abbrev pub ArePlain : json.Items → List Interaction → Type 0
-ArePlain json.no_items [] = ⊤
-ArePlain (json.item value values) (x ∷ xs) = IsPlainItem value x × ArePlain values xs
-ArePlain _ _ = ⊥
+-- the first tokens are the value of this name, and `new` the rest
+abbrev pub TakesField : BatchParts → List ℕ → List Token → BatchParts → List Token → Type 0
+TakesField parts name old more new = (value : json.Json) × (old ≡ json_tokens value ++ new) × AddsField parts name value more
 
--- a batch of these elements
-abbrev pub batch_json : json.Items → json.Json
-batch_json values = json.object (json.member (name_text names.Items) (json.array values) json.no_members)
-
--- the tokens of a whole batch in the plain form
-abbrev pub IsPlain : List Token → List Interaction → Type 0
-IsPlain tokens items = (values : json.Items) × (tokens ≡ json_tokens (batch_json values)) × ArePlain values items × (1 ≤ length items) × (length items ≤ 4096)
-
--- the token is the value of this name
-abbrev pub TakesPart : Parts → List ℕ → Token → Parts → Type 0
-TakesPart old name token new = (value : json.Json) × (json_tokens value ≡ token ∷ []) × AddsPart old name value new
-
--- the first tokens are the fields of an element up to its end, and `new` the rest
-abbrev pub TakesItem : Parts → List Token → Interaction → List Token → Type 0
-TakesItem parts old x new = (fields : json.Members) × (old ≡ members_tokens fields ++ new) × Completes parts fields x
-
--- the first tokens are elements up to the end of their array, and `new` the rest
-abbrev pub TakesItems : List Token → List Interaction → List Token → Type 0
-TakesItems old xs new = (values : json.Items) × (old ≡ items_tokens values ++ new) × ArePlain values xs
+-- the first tokens are the fields of a batch up to its end, and `new` the rest
+abbrev pub TakesFields : BatchParts → List Token → Ask → List Token → Type 0
+TakesFields parts old ask new = (fields : json.Members) × (old ≡ members_tokens fields ++ new) × Completes parts fields ask

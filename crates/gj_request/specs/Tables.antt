@@ -101,7 +101,11 @@ items = record { shape = some_items; reading = items_of }
 
 -- the fields of the bodies, in the order in which they are read
 abbrev pub batch_rows : List Row
-batch_rows = needed names.Items items ∷ []
+batch_rows =
+    needed names.Items items
+    ∷ optional names.Producer (number 0 1024) 0
+    ∷ optional names.Number (number 0 281474976710656) 0
+    ∷ []
 
 abbrev pub walk_rows : List Row
 walk_rows =

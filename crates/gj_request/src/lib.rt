@@ -4,6 +4,7 @@
 //! it is. `read_request` takes memory; the names take none.
 #![tactic(auto)]
 
+mod batch;
 mod count;
 mod fields;
 mod forms;
@@ -12,6 +13,7 @@ mod least;
 mod name;
 mod path;
 mod plain;
+mod plain_items;
 mod refusal;
 mod request;
 mod seeds;
@@ -20,6 +22,8 @@ pub use name::Name;
 pub use refusal::{Reason, Refusal};
 pub use request::read_request;
 
+#[cfg(test)]
+mod batch_tests;
 #[cfg(test)]
 mod count_tests;
 #[cfg(test)]

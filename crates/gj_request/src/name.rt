@@ -1,7 +1,7 @@
 //! The names of fields.
 
-/// A field of a body, or what stands in for one in a refusal: the body itself, a name that no field has, or the
-/// identifier of a path.
+/// A field of a body, or what stands in for one in a refusal: the body itself, a name that no field has, or what a path
+/// ends in, which is an identifier or the place from which a page is asked for.
 #[derive(Clone, Copy, Debug, PartialEq, Eq)]
 pub enum Name {
     Items,
@@ -22,6 +22,9 @@ pub enum Name {
     Iterations,
     Weight,
     Least,
+    Producer,
+    Number,
+    From,
     Body,
     Unknown,
     Id,
@@ -54,6 +57,9 @@ impl Name {
             Name::Iterations => "iterations",
             Name::Weight => "weight",
             Name::Least => "least",
+            Name::Producer => "producer",
+            Name::Number => "number",
+            Name::From => "from",
             Name::Body => "body",
             Name::Unknown => "unknown",
             Name::Id => "id",

@@ -1,27 +1,27 @@
-//! The identifier at the end of a path.
-ghost use Rattle.std.specs.Prelude.{◌≡◌, ◌+◌, ◌-◌, ◌*◌, ◌≤◌, IfOk, Some, min};
+//! The number at the end of a path.
+ghost use Rattle.std.specs.Prelude.{◌≡◌, ◌+◌, ◌-◌, ◌*◌, ◌≤◌, ◌<◌, IfOk, Some, min};
 ghost use Rattle.std.specs.Char.{is_ascii_digit};
 ghost use Rattle.std.specs.List.{list_all};
-ghost use Rattle.gj_request.specs.Requests.{are_digits, digits_value, path_id};
+ghost use Rattle.gj_request.specs.Requests.{are_digits, digits_value, path_number};
 
 use crate::name::Name;
 use crate::refusal::Reason;
-use gj_base::MAX_ID;
 
-/// The identifier that a text spells, in any number of digits.
-#[tactic(auto, unfolding(crate::specs::Requests::path_id))]
-pub fn read_path_id(text: &str) -> Result<u64, Reason>
-    ensures exact { result ≡ path_id (Some text.now) }
-    ensures in_range { IfOk result (λ id. id ≤ MAX_ID) }
+/// The number that a text spells, in any number of digits, where it is at most so much.
+#[tactic(auto, unfolding(crate::specs::Requests::path_number))]
+pub fn read_path_number(name: Name, text: &str, most: u64) -> Result<u64, Reason>
+    requires below { most < u64.MAX }
+    ensures exact { result ≡ path_number name most (Some text.now) }
+    ensures in_range { IfOk result (λ n. n ≤ most) }
 {
     if !are_digits(text.as_bytes()) {
-        return Err(Reason::Field(Name::Id));
+        return Err(Reason::Field(name));
     }
     let value = capped_value(text.as_bytes());
-    if value <= MAX_ID {
+    if value <= most {
         Ok(value)
     } else {
-        Err(Reason::Range(Name::Id))
+        Err(Reason::Range(name))
     }
 }
 

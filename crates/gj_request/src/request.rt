@@ -1,22 +1,22 @@
 //! What a request asks for.
 ghost use Rattle.std.specs.Prelude.{◌≡◌, ◌≤◌, IfOk, IfErr, Ok, Err, Some, None, is_some, option_map};
 ghost use Rattle.serde_json.specs.View.{view};
-ghost use Rattle.gj_request.specs.Requests.{tree_of, parsed, batch_of, walk_of, subgraph_of, similar_of, asked, has_id, IsAsked};
+ghost use Rattle.gj_request.specs.Requests.{tree_of, parsed, batch_of, walk_of, subgraph_of, similar_of, path_id, path_place, asked, has_id, IsAsked};
 ghost use Rattle.gj_request.specs.Results.{Refuses, Gives};
 ghost use Rattle.gj_base.specs.declared.ask.Route.TheVariants.{Interactions};
 
+use crate::batch::read_batch;
 use crate::count::read_count;
 use crate::fields::{
     DEFAULT_PROOF, DEFAULT_TOP, check_names, id, ids, kinds, moment, number, small, truth,
 };
-use crate::items::items;
 use crate::name::Name;
-use crate::path::read_path_id;
+use crate::path::read_path_number;
 use crate::plain::read_plain;
 use crate::refusal::{Reason, Refusal};
 use gj_base::{
-    Ask, HISTORY_END, MAX_ITERATIONS, MAX_PROOF, MAX_RESET, MAX_STEPS, MAX_TOP, Query, Route,
-    SimAsk, SubAsk, WalkAsk,
+    Ask, HISTORY_END, MAX_ID, MAX_ITERATIONS, MAX_PROOF, MAX_RESET, MAX_STEPS, MAX_TOP, Query,
+    Route, SimAsk, SubAsk, WalkAsk,
 };
 use serde_json::Value;
 use std::alloc::Global;
@@ -46,7 +46,22 @@ pub fn read_request(
         Route::User => Ok(Ask::Query(Query::User(read_path_id(id.unwrap())?))),
         Route::Post => Ok(Ask::Query(Query::Post(read_path_id(id.unwrap())?))),
         Route::Stats => Ok(Ask::Query(Query::Stats)),
+        Route::Log => Ok(Ask::Query(Query::Log(read_path_place(id.unwrap())?))),
     }
+}
+
+fn read_path_id(text: &str) -> Result<u64, Reason>
+    ensures exact { result ≡ path_id (Some text.now) }
+    ensures in_range { IfOk result (λ id. id ≤ MAX_ID) }
+{
+    read_path_number(Name::Id, text, MAX_ID)
+}
+
+fn read_path_place(text: &str) -> Result<u64, Reason>
+    ensures exact { result ≡ path_place (Some text.now) }
+    ensures in_range { IfOk result (λ place. place ≤ HISTORY_END) }
+{
+    read_path_number(Name::From, text, HISTORY_END)
 }
 
 /// The JSON value that a body is.
@@ -73,7 +88,7 @@ fn read_interactions(alloc: Global, body: &[u8]) -> Result<Ask, Refusal>
     ensures in_range { IfOk result IsAsked }
 {
     match read_plain(alloc, body) {
-        Some(items) => Ok(Ask::Items(items)),
+        Some(ask) => Ok(ask),
         None => read_by_tree(alloc, body),
     }
 }
@@ -85,16 +100,6 @@ pub(crate) fn read_by_tree(alloc: Global, body: &[u8]) -> Result<Ask, Refusal>
     ensures in_range { IfOk result IsAsked }
 {
     read_batch(alloc, &parse(alloc, body)?)
-}
-
-#[tactic(auto, unfolding(crate::specs::Requests::batch_of))]
-fn read_batch(alloc: Global, tree: &Value) -> Result<Ask, Refusal>
-    ensures exact { Gives (batch_of (view tree.now)) result }
-    ensures in_range { IfOk result IsAsked }
-{
-    check_names(Name::Body, tree, &[Name::Items])?;
-    let items = items(alloc, tree, Name::Items)?;
-    Ok(Ask::Items(items))
 }
 
 /// The names of a walk's fields.

@@ -1,7 +1,5 @@
-use crate::plain::read_plain;
-use crate::request::read_by_tree;
 use crate::{Name, Refusal, read_request};
-use gj_base::{Ask, ItemList, Kind, MAX_ID, Mask, Query, Route, SubAsk, WalkAsk};
+use gj_base::{Ask, Kind, MAX_ID, Mask, Query, Route, SubAsk, WalkAsk};
 use std::alloc::Global;
 use std::process::Abort;
 use std::test::Fail;
@@ -36,13 +34,6 @@ fn similar_of(alloc: Global, body: &str) -> Option<(u64, u32, u64, u32, u64, u64
     }
 }
 
-fn batch_of(alloc: Global, body: &str) -> Option<ItemList> {
-    match read_request(alloc, Route::Interactions, None, body.as_bytes()) {
-        Ok(Ask::Items(items)) => Some(items),
-        _ => None,
-    }
-}
-
 fn user_of(alloc: Global, id: &str) -> Option<u64> {
     match read_request(alloc, Route::User, Some(id), b"{") {
         Ok(Ask::Query(Query::User(user))) => Some(user),
@@ -53,6 +44,13 @@ fn user_of(alloc: Global, id: &str) -> Option<u64> {
 fn post_of(alloc: Global, id: &str) -> Option<u64> {
     match read_request(alloc, Route::Post, Some(id), b"") {
         Ok(Ask::Query(Query::Post(post))) => Some(post),
+        _ => None,
+    }
+}
+
+fn place_of(alloc: Global, from: &str) -> Option<u64> {
+    match read_request(alloc, Route::Log, Some(from), b"{") {
+        Ok(Ask::Query(Query::Log(place))) => Some(place),
         _ => None,
     }
 }
@@ -74,10 +72,6 @@ fn walk_refusal(alloc: Global, body: &[u8]) -> Option<Refusal> {
     read_request(alloc, Route::Walk, None, body).err()
 }
 
-fn batch_refusal(alloc: Global, body: &[u8]) -> Option<Refusal> {
-    read_request(alloc, Route::Interactions, None, body).err()
-}
-
 fn subgraph_refusal(alloc: Global, body: &[u8]) -> Option<Refusal> {
     read_request(alloc, Route::Subgraph, None, body).err()
 }
@@ -88,6 +82,10 @@ fn similar_refusal(alloc: Global, body: &[u8]) -> Option<Refusal> {
 
 fn user_refusal(alloc: Global, id: &str) -> Option<Refusal> {
     read_request(alloc, Route::User, Some(id), b"").err()
+}
+
+fn log_refusal(alloc: Global, from: &str) -> Option<Refusal> {
+    read_request(alloc, Route::Log, Some(from), b"").err()
 }
 
 #[test]
@@ -292,250 +290,6 @@ fn a_query_has_at_most_1000_seeds(rt: HostRuntime) -> Result<(), Fail> {
 }
 
 #[test]
-fn a_batch_is_refused_by_the_first_fault(rt: HostRuntime) {
-    for (items, refusal) in [
-        ("null", Refusal::Field(Name::Items)),
-        ("{}", Refusal::Field(Name::Items)),
-        ("[]", Refusal::Range(Name::Items)),
-        ("[1]", Refusal::Field(Name::Items)),
-        ("[{}]", Refusal::Field(Name::User)),
-        ("[{\"x\":0}]", Refusal::Field(Name::Unknown)),
-        ("[{\"user\":1}]", Refusal::Field(Name::Post)),
-        ("[{\"user\":1,\"post\":1}]", Refusal::Field(Name::Kind)),
-        (
-            "[{\"user\":1,\"post\":1,\"kind\":\"click\",\"seed\":0}]",
-            Refusal::Field(Name::Unknown),
-        ),
-        (
-            "[{\"user\":null,\"post\":1,\"kind\":\"click\"}]",
-            Refusal::Field(Name::User),
-        ),
-        (
-            "[{\"user\":9223372036854775808,\"post\":1.5,\"kind\":0}]",
-            Refusal::Range(Name::User),
-        ),
-        (
-            "[{\"user\":1,\"post\":1.5,\"kind\":0}]",
-            Refusal::Field(Name::Post),
-        ),
-        (
-            "[{\"user\":1,\"post\":9223372036854775808,\"kind\":0}]",
-            Refusal::Range(Name::Post),
-        ),
-        (
-            "[{\"user\":1,\"post\":1,\"kind\":0}]",
-            Refusal::Field(Name::Kind),
-        ),
-        (
-            "[{\"user\":1,\"post\":1,\"kind\":\"Click\"}]",
-            Refusal::Range(Name::Kind),
-        ),
-        (
-            "[{\"user\":1,\"post\":1,\"kind\":0,\"at\":-1}]",
-            Refusal::Field(Name::Kind),
-        ),
-        (
-            "[{\"user\":1,\"post\":1,\"kind\":\"click\",\"at\":-1}]",
-            Refusal::Field(Name::At),
-        ),
-        (
-            "[{\"user\":1,\"post\":1,\"kind\":\"click\",\"at\":null}]",
-            Refusal::Field(Name::At),
-        ),
-        (
-            "[{\"user\":1,\"post\":1,\"kind\":\"click\",\"at\":9223372036854775808}]",
-            Refusal::Range(Name::At),
-        ),
-        (
-            "[{\"user\":1,\"post\":1,\"kind\":\"like\"},0]",
-            Refusal::Range(Name::Kind),
-        ),
-        (
-            "[0,{\"user\":1,\"post\":1,\"kind\":\"like\"}]",
-            Refusal::Field(Name::Items),
-        ),
-    ] {
-        let body = format!(in rt.alloc(); "{{\"items\":{items}}}").expect(&rt, "memory");
-        assert_eq!(rt;
-            batch_refusal(rt.alloc(), body.as_str().as_bytes()),
-            Some(refusal),
-            "{items}"
-        );
-    }
-    assert_eq!(rt;
-        batch_refusal(rt.alloc(), b"{}"),
-        Some(Refusal::Field(Name::Items))
-    );
-}
-
-#[test]
-fn a_batch_has_its_interactions_in_order_and_no_moment_is_0(rt: HostRuntime) -> Result<(), Fail> {
-    let body =
-        "{\"items\":[{\"user\":9223372036854775807,\"post\":0,\"kind\":\"reply\"},{\"at\":9223372036854775807,\"kind\":\"favorite\",\"post\":20,\"user\":1}]}";
-    let items = batch_of(rt.alloc(), body).ok_or("no batch")?;
-    let items = items.as_slice();
-    assert_eq!(rt; items.len(), 2);
-    let first = items[0];
-    assert_eq!(rt;
-        (first.user, first.post, first.kind, first.at),
-        (MAX_ID, 0, Kind::Reply, 0)
-    );
-    let last = items[1];
-    assert_eq!(rt;
-        (last.user, last.post, last.kind, last.at),
-        (1, 20, Kind::Favorite, MAX_ID)
-    );
-    Ok(())
-}
-
-fn long_batch(rt: &(impl Abort + AllocGlobal), count: u64) -> Result<String, Fail> {
-    let mut body = String::from_str(
-        rt.alloc(),
-        "{\"items\":[{\"user\":0,\"post\":0,\"kind\":\"click\"}",
-    )?;
-    for id in 1..count {
-        write!(body, ",{{\"user\":{id},\"post\":{id},\"kind\":\"click\"}}")?;
-    }
-    body.push_str("]}")?;
-    Ok(body)
-}
-
-#[test]
-fn a_batch_has_at_most_4096_items(rt: HostRuntime) -> Result<(), Fail> {
-    for (count, is_plain, refusal) in [
-        (4096, true, None),
-        (4097, false, Some(Refusal::Range(Name::Items))),
-    ] {
-        let body = long_batch(&rt, count)?;
-        assert_eq!(rt;
-            batch_refusal(rt.alloc(), body.as_str().as_bytes()),
-            refusal
-        );
-        assert_eq!(rt;
-            read_plain(rt.alloc(), body.as_str().as_bytes()).is_some(),
-            is_plain
-        );
-        assert!(rt; is_read_alike(rt.alloc(), body.as_str()), "{count} items");
-    }
-    Ok(())
-}
-
-/// Whether a body has the same answer as by its tree.
-fn is_read_alike(alloc: Global, body: &str) -> bool {
-    let answer = read_request(alloc, Route::Interactions, None, body.as_bytes());
-    let by_tree = read_by_tree(alloc, body.as_bytes());
-    match (&answer, &by_tree) {
-        (Ok(Ask::Items(items)), Ok(Ask::Items(same))) => items.as_slice() == same.as_slice(),
-        (Err(refusal), Err(same)) => *refusal == *same,
-        _ => false,
-    }
-}
-
-const ITEM: &str = "{\"user\":1,\"post\":2,\"kind\":\"click\"}";
-
-/// A batch of three elements, with this one at its place.
-fn batch_with(rt: &(impl Abort + AllocGlobal), element: &str, place: u32) -> String {
-    let body = match place {
-        0 => format!(in rt.alloc(); "{{\"items\":[{element},{ITEM},{ITEM}]}}"),
-        1 => format!(in rt.alloc(); "{{\"items\":[{ITEM},{element},{ITEM}]}}"),
-        _ => format!(in rt.alloc(); "{{\"items\":[{ITEM},{ITEM},{element}]}}"),
-    };
-    body.expect(rt, "memory")
-}
-
-fn has_form(rt: &(impl Abort + AllocGlobal), body: &str, is_plain: bool) {
-    assert_eq!(rt;
-        read_plain(rt.alloc(), body.as_bytes()).is_some(),
-        is_plain,
-        "{body}"
-    );
-    assert!(rt; is_read_alike(rt.alloc(), body), "{body}");
-}
-
-#[test]
-fn an_element_in_any_form_is_read_as_by_the_tree(rt: HostRuntime) {
-    for (element, is_plain) in [
-        (
-            "{\"at\":9223372036854775807,\"kind\":\"tweet\",\"post\":0,\"user\":9223372036854775807}",
-            true,
-        ),
-        (
-            " {\n\"post\" : 2 ,\t\"kind\" :\"reply\",\r\"user\": 1 } ",
-            true,
-        ),
-        (
-            "{\"us\\u0065r\":1,\"post\":2,\"kind\":\"cl\\u0069ck\"}",
-            true,
-        ),
-        (
-            "{\"user\":1,\"post\":2,\"kind\":\"click\",\"user\":3}",
-            false,
-        ),
-        (
-            "{\"user\":1,\"post\":2,\"kind\":\"click\",\"at\":0,\"at\":1}",
-            false,
-        ),
-        ("{\"user\":1,\"post\":2,\"kind\":\"click\",\"x\":0}", false),
-        ("{\"user\":1,\"post\":2}", false),
-        ("{\"post\":2,\"kind\":\"click\"}", false),
-        ("{\"user\":1,\"post\":2,\"kind\":\"Click\"}", false),
-        ("{\"user\":1,\"post\":2,\"kind\":3}", false),
-        ("{\"user\":\"click\",\"post\":2,\"kind\":\"click\"}", false),
-        ("{\"user\":-1,\"post\":2,\"kind\":\"click\"}", false),
-        ("{\"user\":1.0,\"post\":2,\"kind\":\"click\"}", false),
-        ("{\"user\":1,\"post\":1e2,\"kind\":\"click\"}", false),
-        ("{\"user\":1,\"post\":01,\"kind\":\"click\"}", false),
-        (
-            "{\"user\":9223372036854775808,\"post\":2,\"kind\":\"click\"}",
-            false,
-        ),
-        (
-            "{\"user\":1,\"post\":18446744073709551616,\"kind\":\"click\"}",
-            false,
-        ),
-        (
-            "{\"user\":1,\"post\":2,\"kind\":\"click\",\"at\":9223372036854775808}",
-            false,
-        ),
-        (
-            "{\"user\":1,\"post\":2,\"kind\":\"click\",\"at\":null}",
-            false,
-        ),
-        ("{\"user\":1,\"post\":2,\"kind\":\"click\",}", false),
-        ("{\"user\":1,\"post\":2,\"kind\":\"click\"", false),
-        ("[{\"user\":1,\"post\":2,\"kind\":\"click\"}]", false),
-        ("7", false),
-        ("", false),
-    ] {
-        for place in 0..3 {
-            has_form(&rt, batch_with(&rt, element, place).as_str(), is_plain);
-        }
-    }
-}
-
-#[test]
-fn a_body_in_any_form_is_read_as_by_the_tree(rt: HostRuntime) {
-    for (front, back, is_plain) in [
-        ("\n{ \"items\" : [", "] }\t", true),
-        ("{\"\\u0069tems\":[", "]}", true),
-        ("{\"items\":[", "]} x", false),
-        ("{\"items\":[", "]}}", false),
-        ("{\"items\":[", "]}{}", false),
-        ("{\"items\":[", ",]}", false),
-        ("{\"items\":[", "]", false),
-        ("{\"items\":[", "],\"items\":[]}", false),
-        ("{\"items\":[", "],\"user\":0}", false),
-        ("{\"item\":[", "]}", false),
-        ("[", "]", false),
-        ("", "", false),
-    ] {
-        let body = format!(in rt.alloc(); "{front}{ITEM}{back}").expect(&rt, "memory");
-        has_form(&rt, body.as_str(), is_plain);
-    }
-    has_form(&rt, "{\"items\":[]}", false);
-}
-
-#[test]
 fn a_subgraph_query_has_its_own_fields(rt: HostRuntime) -> Result<(), Fail> {
     for (body, refusal) in [
         (
@@ -641,6 +395,29 @@ fn a_path_ends_in_the_digits_of_an_identifier(rt: HostRuntime) {
     );
     assert_eq!(rt; user_of(rt.alloc(), "0"), Some(0));
     assert_eq!(rt; post_of(rt.alloc(), "9223372036854775807"), Some(MAX_ID));
+}
+
+#[test]
+fn a_page_is_asked_for_by_its_first_place(rt: HostRuntime) {
+    for (from, refusal) in [
+        ("", Refusal::Field(Name::From)),
+        ("x", Refusal::Field(Name::From)),
+        ("-1", Refusal::Field(Name::From)),
+        ("1.0", Refusal::Field(Name::From)),
+        ("281474976710657", Refusal::Range(Name::From)),
+        ("9223372036854775807", Refusal::Range(Name::From)),
+        ("18446744073709551616", Refusal::Range(Name::From)),
+        ("9999999999999999999999999999x", Refusal::Field(Name::From)),
+    ] {
+        assert_eq!(rt; log_refusal(rt.alloc(), from), Some(refusal), "{from}");
+    }
+    for (from, place) in [
+        ("0", 0),
+        ("0000000000000000000000000000007", 7),
+        ("281474976710656", 1 << 48),
+    ] {
+        assert_eq!(rt; place_of(rt.alloc(), from), Some(place), "{from}");
+    }
 }
 
 #[test]

@@ -2,8 +2,8 @@
 use Rattle.std.proofs.Common.{◌≡◌, ◌⊎◌, inl, inr, true, false, Bool, ℕ, ◌+◌, ◌<◌, ◌≤◌, ◌∙◌, IsTrue, List, ◌++◌, length, take, refl, sym, ap, subst, arith, append_assoc, length-append}
 use Rattle.std.proofs.lemmas.List.{take-append-le}
 use Rattle.std.proofs.Math.Seq.{take-append-add}
-use Rattle.gj_session.specs.Streams.{AppendsPart, Outgoing, Wrote}
-use Rattle.gj_session.proofs.StreamLemmas.{wrote_then}
+use Rattle.gj_base.specs.Streams.{AppendsPart, Outgoing, Wrote}
+use Rattle.gj_base.proofs.StreamLemmas.{wrote_then}
 use Rattle.gj_serve.specs.declared.ends.DoorEnd.{DoorEnd}
 use Rattle.gj_serve.specs.declared.ends.DoorEnd.TheVariants.{Spent, Closed, Fault}
 use Rattle.gj_service.specs.Lines.{WroteBeginning, both_lines, last_line, ready_line}

@@ -2,7 +2,7 @@
 use Rattle.std.specs.Prelude.{◌≡◌, ℕ, ◌<◌, List, ◌++◌, IsTrue, codes, length, Result, Ok, Err}
 use Rattle.std.specs.Fmt.{decimal}
 use Rattle.gj_base.specs.Causes.{Rose}
-use Rattle.gj_session.specs.Streams.{AppendsPart, Outgoing, Wrote}
+use Rattle.gj_base.specs.Streams.{AppendsPart, Outgoing, Wrote}
 
 -- words and a number
 abbrev pub numbered : List ℕ → ℕ → List ℕ

@@ -1,14 +1,17 @@
 -- What is promised of a service.
-use Rattle.std.specs.Prelude.{◌≡◌, ◌⊎◌, ℕ, ◌+◌, ◌<◌, ◌≤◌, ◌^◌, Bool, true, false, length, Option, None}
+use Rattle.std.specs.Prelude.{◌≡◌, ◌⊎◌, ℕ, ◌+◌, ◌<◌, ◌≤◌, ◌^◌, Bool, true, false, length, Option, Some, None}
 use Rattle.gj_base.specs.declared.history.History.{History}
+use Rattle.gj_base.specs.declared.keeper.KeptConf.{KeptConf}
 use Rattle.gj_base.specs.Causes.{Rose}
+use Rattle.gj_base.specs.Configuration.{Configuration}
 use Rattle.gj_base.specs.History.{Begins, length_of}
-use Rattle.gj_keep.specs.Openings.{MayRefuse}
+use Rattle.gj_keep.specs.Books.{asked, suits}
+use Rattle.gj_keep.specs.Openings.{IsBadRow, MayRefuse}
 use Rattle.gj_keep.specs.declared.opening.OpenError.{OpenError}
 use Rattle.gj_keep.specs.declared.opening.OpenError.TheVariants as why
 use Rattle.gj_serve.specs.declared.ends.DoorEnd.{DoorEnd}
 use Rattle.gj_serve.specs.declared.ends.DoorEnd.TheVariants as ends
-use Rattle.gj_session.specs.Streams.{Outgoing, Wrote}
+use Rattle.gj_base.specs.Streams.{Outgoing, Wrote}
 use Rattle.gj_service.specs.Lines.{WroteBeginning, both_lines, last_line, ready_line}
 use Rattle.gj_service.specs.declared.end.ServiceEnd.{ServiceEnd}
 use Rattle.gj_service.specs.declared.end.ServiceEnd.TheVariants.{Done, WriteFault, DoorFault, Memory, Refused}
@@ -102,6 +105,14 @@ Judges refusal (Refused why.Memory) = MayRefuse refusal why.Memory
 Judges refusal (Refused why.Store) = MayRefuse refusal why.Store
 Judges refusal (Refused (why.ConfDiffers kept asked)) = MayRefuse refusal (why.ConfDiffers kept asked)
 Judges refusal (Refused (why.KeptRow row)) = MayRefuse refusal (why.KeptRow row)
+
+-- where a refusal tells two configurations, the kept one doesn't suit the service's, and the other is the service's
+abbrev pub TellsConf : Configuration → ServiceEnd → Type 0
+TellsConf conf end = (kept now : KeptConf) → end ≡ Refused (why.ConfDiffers kept now) → (suits conf (Some kept) ≡ false) × (now ≡ asked conf)
+
+-- where a refusal tells a row, this is the first bad one of some rows
+abbrev pub TellsRow : Configuration → ServiceEnd → Type 0
+TellsRow conf end = (row : ℕ) → end ≡ Refused (why.KeptRow row) → IsBadRow conf row
 
 -- there is room for both lines, whatever their numbers are
 abbrev pub HasRoom : ℕ → ℕ → Type 0

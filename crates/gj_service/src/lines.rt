@@ -2,7 +2,7 @@
 ghost use Rattle.std.specs.Prelude.{◌≡◌, ◌≢◌, ◌⊎◌, ℕ, ◌+◌, ◌≤◌, ◌++◌, codes, length};
 ghost use Rattle.arrayvec.specs.ArrayString.{array_string_len};
 ghost use Rattle.gj_serve.specs.declared.ends.DoorEnd.TheVariants as doors;
-ghost use Rattle.gj_session.specs.Streams.{Outgoing, Wrote, outgoing};
+ghost use Rattle.gj_base.specs.Streams.{Outgoing, Wrote, outgoing};
 ghost use Rattle.gj_service.specs.Lines.{Went, numbered, ready_line, last_line};
 ghost use Rattle.gj_service.specs.Services.{Writes};
 ghost use Rattle.gj_service.specs.declared.end.ServiceEnd.TheVariants as ends;

@@ -1,7 +1,7 @@
 //! Serving, from the open door to the last line.
 ghost use Rattle.std.specs.Prelude.{◌≡◌, ◌≢◌, ◌+◌, ◌<◌, ◌≤◌, All, IsTrue, vec_len};
 ghost use Rattle.gj_base.specs.History.{length_of};
-ghost use Rattle.gj_session.specs.Streams.{outgoing};
+ghost use Rattle.gj_base.specs.Streams.{outgoing};
 ghost use Rattle.gj_service.specs.Services.{IsPlan, Told, door_at};
 ghost use Rattle.gj_service.specs.declared.end.ServiceEnd.TheVariants as ends;
 

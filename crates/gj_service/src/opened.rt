@@ -5,8 +5,8 @@ ghost use Rattle.gj_base.specs.History.{length_of};
 ghost use Rattle.gj_keep.specs.Books.{Keeps};
 ghost use Rattle.gj_keep.specs.Openings.{IsLeft, due, opening_of};
 ghost use Rattle.gj_keep.specs.declared.opening.OpenError.TheVariants as why;
-ghost use Rattle.gj_session.specs.Streams.{outgoing};
-ghost use Rattle.gj_service.specs.Services.{IsOpened, IsPlan, IsUnserved, Judges, Service, door_at};
+ghost use Rattle.gj_base.specs.Streams.{outgoing};
+ghost use Rattle.gj_service.specs.Services.{IsOpened, IsPlan, IsUnserved, Judges, Service, TellsConf, TellsRow, door_at};
 ghost use Rattle.gj_service.specs.declared.end.ServiceEnd.TheVariants as ends;
 
 use crate::end::ServiceEnd;
@@ -143,6 +143,8 @@ fn serve_named<
     ensures back { D.back result.door ≡ D.handed result.door }
     ensures judged { IsTrue (K.kept keeper).tells → Judges (due conf (K.kept keeper)) result.end }
     ensures bare { IsTrue (K.kept keeper).bare → Judges None result.end }
+    ensures differs { TellsConf conf result.end }
+    ensures bad { TellsRow conf result.end }
     ensures place { result.end ≡ ends.Refused why.Place → grants.new ≡ grants.old + 1 }
     ensures store { result.end ≡ ends.Refused why.Store → K.faults result.keeper ≡ one_more (K.faults keeper) }
     ensures steady_keeper { IsTrue (K.steady keeper) → result.end ≢ ends.Refused why.Store }
@@ -198,6 +200,8 @@ pub fn serve_over<
     // When each refusal comes.
     ensures judged { IsTrue (K.kept keeper).tells → Judges (due conf (K.kept keeper)) result.end }
     ensures bare { IsTrue (K.kept keeper).bare → Judges None result.end }
+    ensures differs { TellsConf conf result.end }
+    ensures bad { TellsRow conf result.end }
     ensures place { result.end ≡ ends.Refused why.Place → grants.new ≡ grants.old + 1 }
     ensures store { result.end ≡ ends.Refused why.Store → K.faults result.keeper ≡ one_more (K.faults keeper) }
     ensures steady_keeper { IsTrue (K.steady keeper) → result.end ≢ ends.Refused why.Store }

@@ -31,6 +31,9 @@ plain_reply query w = of_reply Uncounted (record {
   user = λ n id d r. tt;
   post = λ n id d r. tt;
   stats = λ n b c k. tt;
+  log = λ n f r. tt;
+  gone = λ n b. tt;
+  ahead = λ n. tt;
 }) query w
 
 -- a message with a route
@@ -71,7 +74,8 @@ route_id path =
     (first_id _ _ (at_end_id routes.Count (after (codes "/count") path) refl)
     (first_id _ _ (at_part_id routes.User (after (codes "/users/") path) refl)
     (first_id _ _ (at_part_id routes.Post (after (codes "/posts/") path) refl)
-    (at_end_id routes.Stats (after (codes "/stats") path) refl)))))))
+    (first_id _ _ (at_end_id routes.Stats (after (codes "/stats") path) refl)
+    (at_part_id routes.Log (after (codes "/log/") path) refl))))))))
 
 chosen_id : (fits : Bool) (own routed : Routed) → is_some own.1 ≡ has_id own.0
     → (let answer : Result Routed RouteError = if fits then Ok own else Err (WrongMethod (is_get own.0)) in answer ≡ Ok routed) → is_some routed.1 ≡ has_id routed.0

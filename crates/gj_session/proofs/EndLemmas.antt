@@ -4,7 +4,7 @@ use Rattle.gj_base.specs.Causes.{RoseBy, Rose}
 use Rattle.gj_session.specs.Runs.{Exchange, transcript, exchange_bytes}
 use Rattle.gj_session.specs.Outcomes.{outcome_bytes}
 use Rattle.gj_session.specs.Sessions.{Ends, IsTurned, FailedReads, Replayed}
-use Rattle.gj_session.specs.Streams.{Incoming, Outgoing, Wrote, WrotePart}
+use Rattle.gj_base.specs.Streams.{Incoming, Outgoing, Wrote, WrotePart}
 use Rattle.gj_session.specs.declared.outcome.End.{End}
 use Rattle.gj_session.specs.declared.outcome.End.TheVariants.{Finished, Closed, Truncated, Stopped, ReadFault, WriteFault, Turns}
 

@@ -2,7 +2,7 @@
 use Rattle.std.proofs.Common.{inl, inr, ℕ, List, arith}
 use Rattle.gj_session.specs.Runs.{Exchange}
 use Rattle.gj_session.specs.Sessions.{IsOpen, Ends, Replayed}
-use Rattle.gj_session.specs.Streams.{Incoming, Outgoing, Wrote, WrotePart}
+use Rattle.gj_base.specs.Streams.{Incoming, Outgoing, Wrote, WrotePart}
 use Rattle.gj_session.specs.declared.outcome.End.{End}
 use Rattle.gj_session.specs.declared.outcome.End.TheVariants.{Finished, Closed, Truncated, Stopped, ReadFault, WriteFault, Turns}
 

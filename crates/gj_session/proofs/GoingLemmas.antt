@@ -14,12 +14,12 @@ use Rattle.gj_session.specs.Loop.{GoesOn, AfterAnswer, Answered, RefusalEnds, Is
 use Rattle.gj_session.specs.Outcomes.{IsReply, outcome_bytes}
 use Rattle.gj_session.specs.Runs.{Exchange, messages_of, Leads, exchange_bytes, transcript}
 use Rattle.gj_session.specs.Sessions.{any_closes, ClosesLast, WroteRefusal, CutAnswer, CutRefusal, IsOpen, Ends, Exchanges, Ended}
-use Rattle.gj_session.specs.Streams.{Outgoing, Wrote, WrotePart}
+use Rattle.gj_base.specs.Streams.{Outgoing, Wrote, WrotePart}
 use Rattle.gj_session.specs.declared.outcome.Outcome.{Outcome}
 use Rattle.gj_session.specs.declared.outcome.Outcome.TheVariants.{Stands}
 use Rattle.gj_session.specs.declared.outcome.End.{End}
 use Rattle.gj_session.specs.declared.outcome.End.TheVariants.{Finished, Closed, Truncated, Stopped, ReadFault, WriteFault, Turns}
-use Rattle.gj_session.proofs.StreamLemmas.{wrote_none, wrote_then, part_then}
+use Rattle.gj_base.proofs.StreamLemmas.{wrote_none, wrote_then, part_then}
 
 -- the law of messages in front of messages
 abbrev pub Joins : Type 0

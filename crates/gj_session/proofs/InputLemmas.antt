@@ -9,7 +9,7 @@ use Rattle.gj_http.specs.Request.{Request}
 use Rattle.gj_http.specs.declared.message.Refused.{Refused}
 use Rattle.gj_session.specs.Runs.{Exchange, messages_of}
 use Rattle.gj_session.specs.Sessions.{any_closes, ClosesLast, Ends, Replayed, end_of_cut, IsByInput, IsAll, EndsByInput}
-use Rattle.gj_session.specs.Streams.{Incoming, Outgoing}
+use Rattle.gj_base.specs.Streams.{Incoming, Outgoing}
 use Rattle.gj_session.specs.declared.outcome.End.{End}
 use Rattle.gj_session.specs.declared.outcome.End.TheVariants.{Finished, Closed, Truncated, Stopped, ReadFault, WriteFault, Turns}
 use Rattle.gj_session.proofs.GoingLemmas.{FeedsOn}

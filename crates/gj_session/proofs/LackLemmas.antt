@@ -1,7 +1,7 @@
 -- Which fixed reply stands for an ask: a batch is asked for by one route alone.
 use Rattle.std.proofs.Common.{◌≡◌, ℕ, List, [], ◌∷◌, map, Option, Some, None, Result, Ok, Err, refl, subst}
 use Rattle.gj_base.specs.declared.ask.Ask.{Ask}
-use Rattle.gj_base.specs.declared.ask.Ask.TheVariants.{Items, Query}
+use Rattle.gj_base.specs.declared.ask.Ask.TheVariants.{Items, Noted, Query}
 use Rattle.gj_base.specs.declared.ask.Query as query
 use Rattle.gj_base.specs.declared.ask.Query.TheVariants as queries
 use Rattle.gj_base.specs.declared.ask.Route.{Route}
@@ -14,7 +14,7 @@ use Rattle.gj_reply.specs.declared.fixed.Fixed.{Fixed}
 use Rattle.gj_reply.specs.declared.fixed.Fixed.TheVariants.{Memory, NotAccepted}
 use Rattle.gj_request.specs.Counts.{count_rows}
 use Rattle.gj_request.specs.Forms.{Content}
-use Rattle.gj_request.specs.Requests.{asked, parsed, tree_of, path_id, walk_of, subgraph_of, similar_of, count_of}
+use Rattle.gj_request.specs.Requests.{asked, parsed, tree_of, path_id, path_place, walk_of, subgraph_of, similar_of, count_of}
 use Rattle.gj_request.specs.Results.{◌>>=◌}
 use Rattle.gj_request.specs.Tables.{Row, Builder, field, filled, object_of, read_by, walk_rows, subgraph_rows, similar_rows}
 use Rattle.gj_request.specs.declared.name.Name.{Name}
@@ -49,6 +49,7 @@ of_body P (Some value) of ask each e = each value e
 -- an ask that is no batch
 abbrev IsQuery : Ask → Type 0
 IsQuery (Items batch) = ⊥
+IsQuery (Noted batch) = ⊥
 IsQuery (Query query) = Unit {0}
 
 walk_query : (value : _) (ask : Ask) → walk_of value ≡ Ok ask → IsQuery ask
@@ -73,10 +74,12 @@ vertex_query (Err why) of ask e = cc
 
 query_lacks : (ask : Ask) (lack : Fixed) → IsQuery ask → LacksBy ask lack
 query_lacks (Items batch) lack is = absurd is
+query_lacks (Noted batch) lack is = absurd is
 query_lacks (Query query) lack is = tt
 
 posts_lack : (ask : Ask) → LacksBy ask NotAccepted
 posts_lack (Items batch) = refl
+posts_lack (Noted batch) = refl
 posts_lack (Query query) = tt
 
 -- a batch is asked for by one route alone
@@ -89,10 +92,12 @@ asked_lacks routes.Similar id body ask e = query_lacks ask Memory (of_body IsQue
 asked_lacks routes.Count id body ask e = query_lacks ask Memory (of_body IsQuery (tree_of body) count_of ask (λ value. count_query value ask) e)
 asked_lacks routes.User id body ask e = query_lacks ask Memory (vertex_query (path_id id) queries.User ask e)
 asked_lacks routes.Post id body ask e = query_lacks ask Memory (vertex_query (path_id id) queries.Post ask e)
+asked_lacks routes.Log id body ask e = query_lacks ask Memory (vertex_query (path_place id) queries.Log ask e)
 asked_lacks routes.Stats id body ask e = (let same : Query queries.Stats ≡ ask = cc in query_lacks ask Memory (subst IsQuery same tt))
 
 body_batch : (read : Result Ask Reason) (lack : Fixed) (batch : List Item) → ((ask : Ask) → read ≡ Ok ask → LacksBy ask lack) → by_body read ≡ Ok (Items batch) → lack ≡ NotAccepted
 body_batch (Ok (Items other)) lack batch each e = each (Items other) refl
+body_batch (Ok (Noted other)) lack batch each e = cc
 body_batch (Ok (Query query)) lack batch each e = cc
 body_batch (Err why) lack batch each e = cc
 

@@ -8,8 +8,9 @@ pub mod InputLemmas
 pub mod LackLemmas
 pub mod LawLemmas
 pub mod LoopLemmas
+pub mod NotedLemmas
+pub mod NotedSeatLemmas
 pub mod RecentLemmas
 pub mod RunLemmas
 pub mod SeatLemmas
 pub mod SeatRunLemmas
-pub mod StreamLemmas

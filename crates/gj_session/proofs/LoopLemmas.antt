@@ -6,12 +6,12 @@ use Rattle.gj_http.specs.Request.{Request}
 use Rattle.gj_session.specs.Loop.{GoesOn, InSession, TookPiece, TookNone, EndsInput, IsByMessages}
 use Rattle.gj_session.specs.Runs.{Exchange, Leads}
 use Rattle.gj_session.specs.Sessions.{IsOpen, Ends, Ended, IsAll, IsTurned, FailedReads, Replayed}
-use Rattle.gj_session.specs.Streams.{Incoming, Outgoing, FailedOnce, TookAll, Took}
+use Rattle.gj_base.specs.Streams.{Incoming, Outgoing, FailedOnce, TookAll, Took}
 use Rattle.gj_session.specs.declared.outcome.Outcome.{Outcome}
 use Rattle.gj_session.specs.declared.outcome.End.{End}
 use Rattle.gj_session.specs.declared.outcome.End.TheVariants.{Finished, Closed, Truncated, Stopped, ReadFault, WriteFault, Turns}
 use Rattle.gj_session.proofs.GoingLemmas.{Joins, FeedsOn, goes_none, goes_goes, goes_fed, goes_ended, open_ended}
-use Rattle.gj_session.proofs.StreamLemmas.{took_none, took_then}
+use Rattle.gj_base.proofs.StreamLemmas.{took_none, took_then}
 
 -- nothing was taken yet
 pub session_none : (S : Type 0) (step : S → Request → Outcome → S → Type 0) (k : S) (i : Incoming) (o : Outgoing) (rest : List ℕ) → NeedsMore [] → rest ≡ []

@@ -12,10 +12,11 @@ use Rattle.gj_base.specs.declared.item.Item.{Item}
 use Rattle.gj_http.specs.Request.{Request}
 use Rattle.gj_reply.specs.declared.fixed.Fixed.{Fixed}
 use Rattle.gj_reply.specs.declared.reply.Reply.{Reply}
-use Rattle.gj_session.specs.Answers.{Mark, mark_at, entries_of, Answers, AnswersAsk}
+use Rattle.gj_session.specs.Answers.{Answers, AnswersAsk}
 use Rattle.gj_session.specs.Heard.{heard, lack_of}
 use Rattle.gj_session.specs.IndexRuns.{IndexAt, IndexAnswers, IndexRan, one_if}
 use Rattle.gj_session.specs.Loop.{LedBy}
+use Rattle.gj_session.specs.Marks.{Mark, mark_at, entries_of}
 use Rattle.gj_session.specs.Outcomes.{is_store}
 use Rattle.gj_session.specs.Runs.{Exchange, Run, stores_in}
 use Rattle.gj_session.specs.declared.outcome.Outcome.{Outcome}
@@ -67,10 +68,10 @@ index_ran S at x y (e ∷ es) l =
           let first = one.answers h seat shows in
           let later = rest.runs first.0 seat first.1.1.shows in
           let conf = (at x).viewed in
-          let run : Run (record { capacity = conf.capacity; segments = conf.segments }) true seat (mark_at seat first.0) (mark_at seat later.0) es = rw (← one.same) later.1.0 in (
+          let run : Run (record { capacity = conf.capacity; segments = conf.segments }) true seat (mark_at seat first.0 (at l.0).noted) (mark_at seat later.0 (at y).noted) es = rw (← one.same) later.1.0 in (
             later.0,
             (
-              (mark_at seat first.0, (answers_message _ true seat (mark_at seat h) e.message e.outcome (mark_at seat first.0) first.1.0, run)),
+              (mark_at seat first.0 (at l.0).noted, (answers_message _ true seat (mark_at seat h (at x).noted) e.message e.outcome (mark_at seat first.0 (at l.0).noted) first.1.0, run)),
               record { shows = later.1.1.shows; keeps = λ kept. later.1.1.keeps (first.1.1.keeps kept) },
             ),
           );

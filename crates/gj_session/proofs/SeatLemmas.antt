@@ -11,6 +11,7 @@ use Rattle.gj_base.specs.declared.history.History.{History}
 use Rattle.gj_base.specs.declared.item.Entry.{Entry}
 use Rattle.gj_base.specs.declared.item.Item.{Item}
 use Rattle.gj_base.specs.declared.item.Receipt.{Receipt}
+use Rattle.gj_once.specs.Judging.{nothing_noted}
 use Rattle.gj_publish.specs.Answers.{after_post}
 use Rattle.gj_publish.specs.Seats.{SeatView, Numbers, raised, looked}
 use Rattle.gj_publish.specs.Writers.{by_seat}
@@ -24,12 +25,12 @@ use Rattle.gj_reply.specs.declared.reply.Reply.TheVariants as replies
 use Rattle.gj_session.specs.Answers.{window_under}
 use Rattle.gj_session.specs.AnsweringLaws.{Uncounts, uncounts_reply, rose_none}
 use Rattle.gj_session.specs.IndexRuns.{one_if}
-use Rattle.gj_session.specs.Outcomes.{IsReply, is_store, is_full, is_apart, is_no_look}
+use Rattle.gj_session.specs.Outcomes.{IsReply, is_store, is_full, is_apart, is_no_look, is_repeated, is_old, is_skipped}
 use Rattle.gj_session.specs.Reference.{reply_of}
 use Rattle.gj_session.specs.SeatReplies.{entered_items, outcome_of}
 use Rattle.gj_session.specs.SeatRuns.{is_look, CountedOne, SeatAnswers}
 use Rattle.gj_session.specs.SeatLaws.{made_none}
-use Rattle.gj_session.specs.Streams.{Made}
+use Rattle.gj_base.specs.Streams.{Made}
 use Rattle.gj_session.specs.declared.outcome.Outcome.{Outcome}
 use Rattle.gj_session.specs.declared.outcome.Outcome.TheVariants.{Says, Stands}
 use Rattle.gj_session.proofs.AskLemmas.{plain_reply}
@@ -54,19 +55,19 @@ pub record PostSays (S : Type 0) (p q h new : History) (a b : SeatView) (items :
   pub number : b.number ≡ a.number
   pub low : length_of h ≤ 2 ^ 48
 
-rose_once : (f : ℕ) → RoseBy 1 f (raised f)
+pub rose_once : (f : ℕ) → RoseBy 1 f (raised f)
 rose_once f = omega arith
 
-rose_stays : (f : ℕ) → RoseBy 0 f f
+pub rose_stays : (f : ℕ) → RoseBy 0 f f
 rose_stays f = omega arith
 
-made_stays : (f : ℕ) → Made 0 f f
+pub made_stays : (f : ℕ) → Made 0 f f
 made_stays f = record { low = omega arith; high = omega arith }
 
-made_once : (f : ℕ) → Made 1 f (raised f)
+pub made_once : (f : ℕ) → Made 1 f (raised f)
 made_once f = record { low = omega arith; high = omega arith }
 
-rose_shown : (b : Bool) (f : ℕ) → RoseBy (one_if b) f (raised f)
+pub rose_shown : (b : Bool) (f : ℕ) → RoseBy (one_if b) f (raised f)
 rose_shown true f = omega arith
 rose_shown false f = omega arith
 
@@ -78,6 +79,10 @@ counted_look n query o un = record {
   store = rose_none (is_store o) n.store un.store;
   full = rose_none (is_full o) n.full un.full;
   apart = rose_none (is_apart o) n.apart un.apart;
+  fresh = rose_stays n.judged_fresh;
+  repeated = rose_none (is_repeated o) n.judged_repeat un.repeated;
+  old = rose_none (is_old o) n.judged_old un.old;
+  skipped = rose_none (is_skipped o) n.judged_skipped un.skipped;
 }
 
 within : (x : ℕ) → (2 ^ 48 < x → ⊥) → x ≤ 2 ^ 48
@@ -100,19 +105,22 @@ posted_says conf S p q h new a b items r x =
     let low = new_low a.number h new items x.ok.0 (within (length_of h + length items) (λ over. (let wrong = x.room over in cc))) in
     record {
       same = record { number = x.number; later = x.front };
-      answers = record {
-        met = h;
-        meets = x.began;
-        seen = x.ok.2 ∙ x.ok.0;
-        from_is = x.receipt.0;
-        length_is = x.receipt.1 ∙ ap length_of (sym x.ok.2);
-        in_range = (let to = x.receipt.1 in omega (arith, to, low));
-        entered = x.posted.0;
-        once = ap (by_seat a.number) x.ok.2 ∙ sym x.posted.1;
-      };
+      answers = (
+        record {
+          met = h;
+          meets = x.began;
+          seen = x.ok.2 ∙ x.ok.0;
+          from_is = x.receipt.0;
+          length_is = x.receipt.1 ∙ ap length_of (sym x.ok.2);
+          in_range = (let to = x.receipt.1 in omega (arith, to, low));
+          entered = x.posted.0;
+          once = ap (by_seat a.number) x.ok.2 ∙ sym x.posted.1;
+        },
+        refl,
+      );
       few = inr (let own = x.posted.1 in let few = entries_low a.number new low in omega (arith, own, few));
       counts = subst (λ (m : Numbers). CountedOne n m (Ok (asks.Items items)) (Says (replies.Posted r.from r.to))) (sym x.numbers)
-          (record { looks = rose_once n.looks; refused = made_stays n.refused; store = rose_stays n.store; full = rose_stays n.full; apart = rose_stays n.apart });
+          (record { looks = rose_once n.looks; refused = made_stays n.refused; store = rose_stays n.store; full = rose_stays n.full; apart = rose_stays n.apart; fresh = rose_stays n.judged_fresh; repeated = rose_stays n.judged_repeat; old = rose_stays n.judged_old; skipped = rose_stays n.judged_skipped });
     }
 
 unseen_stands : (conf : Configuration) (S : Type 0) (p q h new : History) (a b : SeatView) (items : List Item) (r : Receipt) → PostSays S p q h new a b items (Err (posts.KeptUnseen r))
@@ -123,10 +131,10 @@ unseen_stands conf S p q h new a b items r x =
     let low = new_low a.number h new items kept.2 (within (length_of h + length items) (λ over. (let wrong = x.room over in cc))) in
     record {
       same = record { number = x.number; later = x.front };
-      answers = (x.front, kept.4);
+      answers = ((x.front, kept.4), refl);
       few = inr (let own = kept.5 in let few = entries_low a.number new low in omega (arith, own, few));
       counts = subst (λ (m : Numbers). CountedOne n m (Ok (asks.Items items)) (Stands fixed.Accepted)) (sym x.numbers)
-          (record { looks = rose_once n.looks; refused = made_stays n.refused; store = rose_stays n.store; full = rose_stays n.full; apart = rose_stays n.apart });
+          (record { looks = rose_once n.looks; refused = made_stays n.refused; store = rose_stays n.store; full = rose_stays n.full; apart = rose_stays n.apart; fresh = rose_stays n.judged_fresh; repeated = rose_stays n.judged_repeat; old = rose_stays n.judged_old; skipped = rose_stays n.judged_skipped });
     }
 
 none_stands : (conf : Configuration) (S : Type 0) (p q h new : History) (a b : SeatView) (items : List Item) → PostSays S p q h new a b items (Err posts.Memory)
@@ -136,10 +144,10 @@ none_stands conf S p q h new a b items x =
     let kept = x.err (λ r e. cc) in
     record {
       same = record { number = x.number; later = x.front };
-      answers = (refl, (x.front, kept.1));
+      answers = ((refl, (x.front, kept.1)), refl);
       few = inl kept.1;
       counts = subst (λ (m : Numbers). CountedOne n m (Ok (asks.Items items)) (Stands fixed.NotAccepted)) (sym x.numbers)
-          (record { looks = rose_shown false n.looks; refused = made_stays n.refused; store = rose_stays n.store; full = rose_stays n.full; apart = rose_stays n.apart });
+          (record { looks = rose_shown false n.looks; refused = made_stays n.refused; store = rose_stays n.store; full = rose_stays n.full; apart = rose_stays n.apart; fresh = rose_stays n.judged_fresh; repeated = rose_stays n.judged_repeat; old = rose_stays n.judged_old; skipped = rose_stays n.judged_skipped });
     }
 
 store_says : (conf : Configuration) (S : Type 0) (p q h new : History) (a b : SeatView) (items : List Item) → PostSays S p q h new a b items (Err posts.Store)
@@ -149,10 +157,10 @@ store_says conf S p q h new a b items x =
     let kept = x.err (λ r e. cc) in
     record {
       same = record { number = x.number; later = x.front };
-      answers = (x.front, kept.1);
+      answers = ((x.front, kept.1), refl);
       few = inl kept.1;
       counts = subst (λ (m : Numbers). CountedOne n m (Ok (asks.Items items)) (Says replies.Store)) (sym x.numbers)
-          (record { looks = rose_once n.looks; refused = made_stays n.refused; store = rose_once n.store; full = rose_stays n.full; apart = rose_stays n.apart });
+          (record { looks = rose_once n.looks; refused = made_stays n.refused; store = rose_once n.store; full = rose_stays n.full; apart = rose_stays n.apart; fresh = rose_stays n.judged_fresh; repeated = rose_stays n.judged_repeat; old = rose_stays n.judged_old; skipped = rose_stays n.judged_skipped });
     }
 
 full_says : (conf : Configuration) (S : Type 0) (p q h new : History) (a b : SeatView) (items : List Item) (k : ℕ) → PostSays S p q h new a b items (Err (posts.Full k))
@@ -163,15 +171,18 @@ full_says conf S p q h new a b items k x =
     let over = x.full k refl in
     record {
       same = record { number = x.number; later = x.front };
-      answers = record {
-        same = λ i. record { seen = over.3 i; entered = kept.1 i };
-        at = tt;
-        in_range = (let at = over.0 in let low = x.low in omega (arith, at, low));
-        over = (let at = over.0 in let above = over.1 in omega (arith, at, above));
-      };
+      answers = (
+        record {
+          same = λ i. record { seen = over.3 i; entered = kept.1 i; noted = nothing_noted };
+          at = tt;
+          in_range = (let at = over.0 in let low = x.low in omega (arith, at, low));
+          over = (let at = over.0 in let above = over.1 in omega (arith, at, above));
+        },
+        refl,
+      );
       few = inl kept.1;
       counts = subst (λ (m : Numbers). CountedOne n m (Ok (asks.Items items)) (Says (replies.Full k))) (sym x.numbers)
-          (record { looks = rose_stays n.looks; refused = made_stays n.refused; store = rose_stays n.store; full = rose_once n.full; apart = rose_stays n.apart });
+          (record { looks = rose_stays n.looks; refused = made_stays n.refused; store = rose_stays n.store; full = rose_once n.full; apart = rose_stays n.apart; fresh = rose_stays n.judged_fresh; repeated = rose_stays n.judged_repeat; old = rose_stays n.judged_old; skipped = rose_stays n.judged_skipped });
     }
 
 no_look_stands : (conf : Configuration) (S : Type 0) (p q h new : History) (a b : SeatView) (items : List Item) (why : NoLook) → PostSays S p q h new a b items (Err (posts.NoLook why))
@@ -182,10 +193,10 @@ no_look_stands conf S p q h new a b items why x =
     let none = x.no_look why refl in
     record {
       same = record { number = x.number; later = x.front };
-      answers = (refl, λ i. record { seen = none.1 i; entered = kept.1 i });
+      answers = ((refl, λ i. record { seen = none.1 i; entered = kept.1 i; noted = nothing_noted }), refl);
       few = inl kept.1;
       counts = subst (λ (m : Numbers). CountedOne n m (Ok (asks.Items items)) (Stands fixed.NoLook)) (sym x.numbers)
-          (record { looks = rose_stays n.looks; refused = made_once n.refused; store = rose_stays n.store; full = rose_stays n.full; apart = rose_stays n.apart });
+          (record { looks = rose_stays n.looks; refused = made_once n.refused; store = rose_stays n.store; full = rose_stays n.full; apart = rose_stays n.apart; fresh = rose_stays n.judged_fresh; repeated = rose_stays n.judged_repeat; old = rose_stays n.judged_old; skipped = rose_stays n.judged_skipped });
     }
 
 apart_says : (conf : Configuration) (S : Type 0) (p q h new : History) (a b : SeatView) (items : List Item) (seen shown posted counted : ℕ) → PostSays S p q h new a b items (Err (posts.Apart seen shown posted counted))
@@ -196,10 +207,10 @@ apart_says conf S p q h new a b items seen shown posted counted x =
     let differ = x.apart seen shown posted counted refl in
     record {
       same = record { number = x.number; later = x.front };
-      answers = record { moves = (x.front, kept.1); at = differ.1; own = differ.3 ∙ sym kept.1; differ = differ.6 };
+      answers = (record { moves = (x.front, kept.1); at = differ.1; own = differ.3 ∙ sym kept.1; differ = differ.6 }, refl);
       few = inl kept.1;
       counts = subst (λ (m : Numbers). CountedOne n m (Ok (asks.Items items)) (Says (replies.Apart seen shown posted counted))) (sym x.numbers)
-          (record { looks = rose_once n.looks; refused = made_stays n.refused; store = rose_stays n.store; full = rose_stays n.full; apart = rose_once n.apart });
+          (record { looks = rose_once n.looks; refused = made_stays n.refused; store = rose_stays n.store; full = rose_stays n.full; apart = rose_once n.apart; fresh = rose_stays n.judged_fresh; repeated = rose_stays n.judged_repeat; old = rose_stays n.judged_old; skipped = rose_stays n.judged_skipped });
     }
 
 -- a post, by its outcome
@@ -218,7 +229,7 @@ pub looked_says : (conf : Configuration) (a b : SeatView) (query : Query) (lack 
     → IsReply (reply_of query (window_under conf b.front)) lack o → Uncounts o → SeatAnswers conf a b (Ok (asks.Query query)) lack o
 looked_says conf a b query lack o number posted later numbers is un = record {
   same = record { number = number; later = later };
-  answers = inl ((later, posted), is);
+  answers = (inl ((later, posted), is), refl);
   few = inl posted;
   counts = subst (λ (m : Numbers). CountedOne a.numbers m (Ok (asks.Query query)) o) (sym numbers) (counted_look a.numbers query o un);
 }
@@ -229,7 +240,7 @@ query_says conf a b query lack reply number posted later numbers e =
     looked_says conf a b query lack (Says reply) number posted later numbers (inl (ap Says e))
     (subst (λ (r : Reply). Uncounts (Says r)) (sym e) (uncounts_reply _ (plain_reply query (window_under conf b.front))))
 
-none_enter : (h : History) (number : ℕ) → h ≡ extend h (entries_by number [])
+pub none_enter : (h : History) (number : ℕ) → h ≡ extend h (entries_by number [])
 none_enter h number = λ i. record { first = h.first; entries = sym (append-nil h.entries) i }
 
 -- and what it did to the history

@@ -1,30 +1,38 @@
 -- What a run says of a seat.
 use Rattle.std.proofs.Common.{◌≡◌, ◌⊎◌, inl, inr, add-zero, ℕ, ◌+◌, ◌^◌, ◌≤◌, ◌∙◌, Bool, false, List, [], ◌∷◌, count_by, Result, Ok, Err, refl, ap, sym, subst, arith}
 use Rattle.std.proofs.lemmas.List.Sums.{sum_by-append}
+use Rattle.gj_base.specs.Asks.{NotedBatch}
 use Rattle.gj_base.specs.Configuration.{Configuration}
 use Rattle.gj_base.specs.declared.ask.Ask.{Ask}
 use Rattle.gj_base.specs.declared.ask.Ask.TheVariants as asks
 use Rattle.gj_base.specs.declared.ask.Query.{Query}
 use Rattle.gj_base.specs.declared.item.Item.{Item}
+use Rattle.gj_base.specs.declared.item.Receipt.{Receipt}
+use Rattle.gj_once.specs.Judging.{judged}
+use Rattle.gj_once.specs.declared.verdict.Verdict.{Verdict}
+use Rattle.gj_once.specs.declared.verdict.Verdict.TheVariants as verdict
 use Rattle.gj_publish.specs.Seats.{SeatView, Numbers}
 use Rattle.gj_reply.specs.declared.fixed.Fixed.{Fixed}
 use Rattle.gj_reply.specs.declared.fixed.Fixed.TheVariants as fixed
 use Rattle.gj_reply.specs.declared.reply.Reply.{Reply}
 use Rattle.gj_reply.specs.declared.reply.Reply.TheVariants as replies
-use Rattle.gj_session.specs.Answers.{Mark, AnswersAsk, AnswersQuery, SaysOfBatch, FixedOfBatch}
+use Rattle.gj_session.specs.Answers.{AnswersAsk, AnswersQuery}
 use Rattle.gj_session.specs.AnsweringLaws.{begins_then}
+use Rattle.gj_session.specs.Batches.{AnswersBatch, SaysOfBatch, FixedOfBatch}
 use Rattle.gj_session.specs.Heard.{heard, lack_of}
 use Rattle.gj_session.specs.Loop.{LedBy}
-use Rattle.gj_session.specs.Outcomes.{is_store, is_full, is_apart, is_no_look}
+use Rattle.gj_session.specs.Marks.{Mark}
+use Rattle.gj_session.specs.NotedBatches.{AnswersJudged, AnswersNoted, AnswersRepeat, AnswersWhere, Lacks}
+use Rattle.gj_session.specs.Outcomes.{is_store, is_full, is_apart, is_no_look, is_repeated, is_old, is_skipped}
 use Rattle.gj_session.specs.Runs.{Exchange, Run}
 use Rattle.gj_session.specs.SeatLaws.{same_seat}
-use Rattle.gj_session.specs.SeatRuns.{mark_of, is_look, entered_by, entered_in, Counted, CountedOne, SeatAnswers, SeatRan}
+use Rattle.gj_session.specs.SeatRuns.{mark_of, is_look, is_fresh, entered_by, entered_in, Counted, CountedOne, SeatAnswers, SeatRan}
 use Rattle.gj_session.specs.declared.outcome.Outcome.{Outcome}
 use Rattle.gj_session.specs.declared.outcome.Outcome.TheVariants.{Says, Stands}
 use Rattle.gj_session.specs.IndexRuns.{one_if}
-use Rattle.gj_session.specs.Streams.{Made}
+use Rattle.gj_base.specs.Streams.{Made}
 use Rattle.gj_session.proofs.RunLemmas.{count_more, rose_more, answers_message}
-use Rattle.gj_session.proofs.StreamLemmas.{made_then}
+use Rattle.gj_base.proofs.StreamLemmas.{made_then}
 
 made_more : (p : Exchange → Bool) (e : Exchange) (es : List Exchange) (a b c : ℕ) → Made (one_if (p e)) a b → Made (count_by p es) b c → Made (count_by p (e ∷ es)) a c
 made_more p e es a b c x y = subst (λ (n : ℕ). Made n a c) (sym (count_more p e es)) (made_then (one_if (p e)) (count_by p es) a b c x y)
@@ -36,6 +44,10 @@ counted_then a b c e es x y = record {
   store = rose_more (λ e. is_store e.outcome) e es a.store b.store c.store x.store y.store;
   full = rose_more (λ e. is_full e.outcome) e es a.full b.full c.full x.full y.full;
   apart = rose_more (λ e. is_apart e.outcome) e es a.apart b.apart c.apart x.apart y.apart;
+  fresh = rose_more (λ e. is_fresh (heard e.message) e.outcome) e es a.judged_fresh b.judged_fresh c.judged_fresh x.fresh y.fresh;
+  repeated = rose_more (λ e. is_repeated e.outcome) e es a.judged_repeat b.judged_repeat c.judged_repeat x.repeated y.repeated;
+  old = rose_more (λ e. is_old e.outcome) e es a.judged_old b.judged_old c.judged_old x.old y.old;
+  skipped = rose_more (λ e. is_skipped e.outcome) e es a.judged_skipped b.judged_skipped c.judged_skipped x.skipped y.skipped;
 }
 
 says_enters : (seat : ℕ) (a : Mark) (batch : List Item) (reply : Reply) (b : Mark) → SaysOfBatch false seat a batch reply b → b.entered ≡ a.entered + entered_by (Ok (asks.Items batch)) (Says reply)
@@ -43,25 +55,7 @@ says_enters seat a batch (replies.Posted from to) b x = x.entered
 says_enters seat a batch (replies.Full n) b x = ap (λ (m : Mark). m.entered) x.same ∙ sym (add-zero a.entered)
 says_enters seat a batch replies.Store b x = x.1 ∙ sym (add-zero a.entered)
 says_enters seat a batch (replies.Apart seen shown posted counts) b x = x.moves.1 ∙ sym (add-zero a.entered)
-says_enters seat a batch (replies.Behind n) b x = absurd x
-says_enters seat a batch (replies.Walk n r) b x = absurd x
-says_enters seat a batch (replies.Subgraph n r) b x = absurd x
-says_enters seat a batch (replies.Similar n r) b x = absurd x
-says_enters seat a batch (replies.Count n r) b x = absurd x
-says_enters seat a batch (replies.User n id d r) b x = absurd x
-says_enters seat a batch (replies.Post n id d r) b x = absurd x
-says_enters seat a batch (replies.Stats n base c k) b x = absurd x
-says_enters seat a batch replies.BadJson b x = absurd x
-says_enters seat a batch (replies.BadField name) b x = absurd x
-says_enters seat a batch (replies.BadRange name) b x = absurd x
-says_enters seat a batch replies.NoRoute b x = absurd x
-says_enters seat a batch replies.OnlyGet b x = absurd x
-says_enters seat a batch replies.OnlyPost b x = absurd x
-says_enters seat a batch replies.BadHead b x = absurd x
-says_enters seat a batch replies.HeadLong b x = absurd x
-says_enters seat a batch replies.Coded b x = absurd x
-says_enters seat a batch replies.BadLength b x = absurd x
-says_enters seat a batch replies.BodyLong b x = absurd x
+says_enters seat a batch _ b x = absurd x
 
 stands_enters : (seat : ℕ) (a : Mark) (batch : List Item) (lack which : Fixed) (b : Mark) → FixedOfBatch false seat a batch lack which b → b.entered ≡ a.entered + entered_by (Ok (asks.Items batch)) (Stands which)
 stands_enters seat a batch lack fixed.Accepted b x = x.1
@@ -73,11 +67,55 @@ query_enters : (conf : Configuration) (a : Mark) (query : Query) (lack : Fixed) 
 query_enters conf a query lack o b (inl x) = x.0.1
 query_enters conf a query lack o b (inr x) = ap (λ (m : Mark). m.entered) x.1
 
+batch_enters : (seat : ℕ) (a : Mark) (batch : List Item) (lack : Fixed) (o : Outcome) (b : Mark) → AnswersBatch false seat a batch lack o b → b.entered ≡ a.entered + entered_by (Ok (asks.Items batch)) o
+batch_enters seat a batch lack (Says reply) b x = says_enters seat a batch reply b x
+batch_enters seat a batch lack (Stands which) b x = stands_enters seat a batch lack which b x
+
+-- a numbered batch enters by the answers by which any batch does
+as_batch : (batch : NotedBatch) (o : Outcome) → entered_by (Ok (asks.Items batch.items)) o ≡ entered_by (Ok (asks.Noted batch)) o
+as_batch batch (Stands which) = by_fixed which
+  where
+    by_fixed : (which : Fixed) → entered_by (Ok (asks.Items batch.items)) (Stands which) ≡ entered_by (Ok (asks.Noted batch)) (Stands which)
+    by_fixed fixed.Accepted = refl
+    by_fixed _ = refl
+as_batch batch (Says (replies.Posted from to)) = refl
+as_batch batch (Says _) = refl
+
+-- and by no other
+none_by : (batch : NotedBatch) (a b : Mark) (o other : Outcome) → o ≡ other → entered_by (Ok (asks.Noted batch)) other ≡ 0 → b.entered ≡ a.entered
+    → b.entered ≡ a.entered + entered_by (Ok (asks.Noted batch)) o
+none_by batch a b o other e none same = same ∙ sym (add-zero a.entered) ∙ ap (λ n. a.entered + n) (sym (ap (entered_by (Ok (asks.Noted batch))) e ∙ none))
+
+lacks_enters : (batch : NotedBatch) (a : Mark) (o : Outcome) (b : Mark) → Lacks false a o b → b.entered ≡ a.entered + entered_by (Ok (asks.Noted batch)) o
+lacks_enters batch a o b x = elim x.0 [
+  | inl e ↦ none_by batch a b o (Stands fixed.Memory) e refl x.1.1
+  | inr e ↦ none_by batch a b o (Stands fixed.NotAccepted) e refl x.1.1
+]
+
+repeat_enters : (batch : NotedBatch) (a : Mark) (receipt : Receipt) (o : Outcome) (b : Mark) → AnswersRepeat false a receipt o b → b.entered ≡ a.entered + entered_by (Ok (asks.Noted batch)) o
+repeat_enters batch a receipt (Says (replies.Repeated from to)) b x = x.moves.1 ∙ sym (add-zero a.entered)
+repeat_enters batch a receipt (Says (replies.Apart seen shown posted counts)) b x = x.moves.1 ∙ sym (add-zero a.entered)
+repeat_enters batch a receipt (Says _) b x = absurd x
+repeat_enters batch a receipt (Stands fixed.NoLook) b x = ap (λ (m : Mark). m.entered) x.1 ∙ sym (add-zero a.entered)
+repeat_enters batch a receipt (Stands _) b x = absurd x
+
+judged_enters : (v : Verdict) (batch : NotedBatch) (seat : ℕ) (a : Mark) (o : Outcome) (b : Mark) → AnswersJudged false seat a batch.items v o b → b.entered ≡ a.entered + entered_by (Ok (asks.Noted batch)) o
+judged_enters verdict.Fresh batch seat a o b x = batch_enters seat a batch.items fixed.NotAccepted o b x ∙ ap (λ n. a.entered + n) (as_batch batch o)
+judged_enters (verdict.Repeat receipt) batch seat a o b x = repeat_enters batch a receipt o b x
+judged_enters (verdict.Old last) batch seat a o b x = none_by batch a b o (Says (replies.Old last)) x.0 refl x.1.1
+judged_enters (verdict.Skipped last) batch seat a o b x = none_by batch a b o (Says (replies.Skipped last)) x.0 refl x.1.1
+
+noted_enters : (seat : ℕ) (a : Mark) (batch : NotedBatch) (o : Outcome) (b : Mark) → AnswersNoted false seat a batch o b → b.entered ≡ a.entered + entered_by (Ok (asks.Noted batch)) o
+noted_enters seat a batch o b x = elim x.1 [
+  | inl lacks ↦ lacks_enters batch a o b lacks
+  | inr answered ↦ judged_enters (judged x.0 batch.producer batch.number) batch seat a o b answered
+]
+
 -- as many have entered as the answer says
 ask_enters : (conf : Configuration) (seat : ℕ) (a : Mark) (ask : Result Ask Reply) (lack : Fixed) (o : Outcome) (b : Mark) → AnswersAsk conf false seat a ask lack o b → b.entered ≡ a.entered + entered_by ask o
-ask_enters conf seat a (Ok (asks.Items batch)) lack (Says reply) b x = says_enters seat a batch reply b x
-ask_enters conf seat a (Ok (asks.Items batch)) lack (Stands which) b x = stands_enters seat a batch lack which b x
-ask_enters conf seat a (Ok (asks.Query query)) lack o b x = query_enters conf a query lack o b x ∙ sym (add-zero a.entered)
+ask_enters conf seat a (Ok (asks.Items batch)) lack o b x = batch_enters seat a batch lack o b x.0
+ask_enters conf seat a (Ok (asks.Noted batch)) lack o b x = noted_enters seat a batch o b x.0
+ask_enters conf seat a (Ok (asks.Query query)) lack o b x = query_enters conf a query lack o b x.0 ∙ sym (add-zero a.entered)
 ask_enters conf seat a (Err reply) lack o b x = ap (λ (m : Mark). m.entered) x.1 ∙ sym (add-zero a.entered)
 
 -- a sum over exchanges, one further
@@ -91,7 +129,7 @@ none_ran conf s = record {
   entered = sym (add-zero s.posted);
   few = omega arith;
   in_range = inl refl;
-  counts = record { looks = omega arith; refused = record { low = omega arith; high = omega arith }; store = omega arith; full = omega arith; apart = omega arith };
+  counts = record { looks = omega arith; refused = record { low = omega arith; high = omega arith }; store = omega arith; full = omega arith; apart = omega arith; fresh = omega arith; repeated = omega arith; old = omega arith; skipped = omega arith };
 }
 
 few_by : (p q n : ℕ) → q ≡ p + n → (q ≡ p) ⊎ (q ≤ 2 ^ 48) → n ≤ 2 ^ 48

@@ -1,9 +1,13 @@
 pub mod Answers
 pub mod AnsweringLaws
+pub mod Batches
 pub mod Completeness
 pub mod Heard
+pub mod IndexReplies
 pub mod IndexRuns
 pub mod Loop
+pub mod Marks
+pub mod NotedBatches
 pub mod Outcomes
 pub mod Reference
 pub mod Runs
@@ -11,4 +15,3 @@ pub mod SeatLaws
 pub mod SeatReplies
 pub mod SeatRuns
 pub mod Sessions
-pub mod Streams

@@ -10,7 +10,7 @@ use Rattle.gj_session.specs.Heard.{framing_reply, heard, lack_of}
 use Rattle.gj_session.specs.Outcomes.{IsReply, outcome_bytes}
 use Rattle.gj_session.specs.Runs.{Exchange, Leads, transcript}
 use Rattle.gj_session.specs.Sessions.{any_closes, Exchanges, Ended}
-use Rattle.gj_session.specs.Streams.{Incoming, Outgoing, FailedOnce, Took, Wrote, WrotePart}
+use Rattle.gj_base.specs.Streams.{Incoming, Outgoing, FailedOnce, Took, Wrote, WrotePart}
 use Rattle.gj_session.specs.declared.outcome.Outcome.{Outcome}
 use Rattle.gj_session.specs.declared.outcome.End.{End}
 use Rattle.gj_session.specs.declared.outcome.End.TheVariants.{Finished, Closed, Truncated, Stopped, WriteFault}

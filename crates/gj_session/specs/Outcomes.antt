@@ -8,7 +8,7 @@ use Rattle.gj_reply.specs.declared.fixed.Fixed.{Fixed}
 use Rattle.gj_reply.specs.declared.fixed.Fixed.TheVariants.{Accepted, NotAccepted, NoLook, Memory}
 use Rattle.gj_reply.specs.declared.status.Status.TheVariants.{Unavailable}
 use Rattle.gj_reply.specs.declared.reply.Reply.{Reply}
-use Rattle.gj_reply.specs.declared.reply.Reply.TheVariants.{Posted, Full, Store, Apart}
+use Rattle.gj_reply.specs.declared.reply.Reply.TheVariants.{Posted, Repeated, Old, Skipped, Full, Store, Apart}
 use Rattle.gj_session.specs.declared.outcome.Outcome.{Outcome}
 use Rattle.gj_session.specs.declared.outcome.Outcome.TheVariants.{Says, Stands}
 
@@ -32,6 +32,14 @@ abbrev pub lack_after : Outcome → Fixed → Fixed
 lack_after (Says (Posted from length)) lack = Accepted
 lack_after (Says _) lack = lack
 lack_after (Stands which) lack = which
+
+-- the same for what is answered to a numbered batch: a batch that may have entered before is not called unaccepted
+abbrev pub noted_lack : Outcome → Fixed
+noted_lack (Says (Posted from length)) = Accepted
+noted_lack (Says (Repeated from length)) = Memory
+noted_lack (Says (Apart seen shown posted counted)) = Memory
+noted_lack (Says _) = NotAccepted
+noted_lack (Stands which) = which
 
 -- the same for what is answered to a query
 abbrev pub query_lack : Outcome → Fixed → Fixed
@@ -58,9 +66,27 @@ abbrev pub is_no_look : Outcome → Bool
 is_no_look (Stands NoLook) = true
 is_no_look _ = false
 
+-- the answer is that the batch had entered before
+abbrev pub is_repeated : Outcome → Bool
+is_repeated (Says (Repeated from length)) = true
+is_repeated _ = false
+
+-- the answer is that a later batch has entered
+abbrev pub is_old : Outcome → Bool
+is_old (Says (Old last)) = true
+is_old _ = false
+
+-- the answer is that an earlier batch is missing
+abbrev pub is_skipped : Outcome → Bool
+is_skipped (Says (Skipped last)) = true
+is_skipped _ = false
+
 -- a reply to a message that asks for nothing, or to a query: no count is of it
 abbrev pub Uncounted : Reply → Type 0
 Uncounted (Posted from length) = ⊥
+Uncounted (Repeated from length) = ⊥
+Uncounted (Old last) = ⊥
+Uncounted (Skipped last) = ⊥
 Uncounted Store = ⊥
 Uncounted (Full n) = ⊥
 Uncounted (Apart seen shown posted counted) = ⊥

@@ -3,7 +3,8 @@ use Rattle.std.specs.Prelude.{◌≡◌, ℕ, Bool, List, [], ◌∷◌, map, co
 use Rattle.std.specs.List.{flat_map}
 use Rattle.gj_base.specs.Configuration.{Configuration}
 use Rattle.gj_http.specs.Request.{Request}
-use Rattle.gj_session.specs.Answers.{Mark, Answers}
+use Rattle.gj_session.specs.Answers.{Answers}
+use Rattle.gj_session.specs.Marks.{Mark}
 use Rattle.gj_session.specs.Outcomes.{outcome_bytes, is_store}
 use Rattle.gj_session.specs.declared.outcome.Outcome.{Outcome}
 

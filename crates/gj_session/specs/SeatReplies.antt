@@ -2,7 +2,11 @@
 use Rattle.std.specs.Prelude.{List, [], Result, Ok, Err}
 use Rattle.gj_base.specs.declared.item.Item.{Item}
 use Rattle.gj_base.specs.declared.item.Receipt.{Receipt}
+use Rattle.gj_once.specs.declared.noted_index.Noted.{Noted}
+use Rattle.gj_once.specs.declared.noted_index.Noted.TheVariants.{New, Repeated}
 use Rattle.gj_publish.specs.Seats.{Numbers, looked, not_looked}
+use Rattle.gj_publish.specs.declared.refusal.NotedError.{NotedError}
+use Rattle.gj_publish.specs.declared.refusal.NotedError.TheVariants as noted
 use Rattle.gj_publish.specs.declared.refusal.PostError.{PostError}
 use Rattle.gj_publish.specs.declared.refusal.PostError.TheVariants as posts
 use Rattle.gj_reply.specs.declared.fixed.Fixed.TheVariants as fixed
@@ -32,6 +36,15 @@ outcome_of_refusal (posts.Apart seen shown posted counted) = Says (replies.Apart
 abbrev pub outcome_of : Result Receipt PostError → Outcome
 outcome_of (Ok receipt) = Says (replies.Posted receipt.from receipt.to)
 outcome_of (Err why) = outcome_of_refusal why
+
+-- what is answered to the post of a numbered batch
+abbrev pub outcome_of_noted : Result Noted NotedError → Outcome
+outcome_of_noted (Ok (New receipt)) = Says (replies.Posted receipt.from receipt.to)
+outcome_of_noted (Ok (Repeated receipt)) = Says (replies.Repeated receipt.from receipt.to)
+outcome_of_noted (Err (noted.Post why)) = outcome_of_refusal why
+outcome_of_noted (Err (noted.RepeatUnseen receipt)) = Stands fixed.Memory
+outcome_of_noted (Err (noted.Old last)) = Says (replies.Old last)
+outcome_of_noted (Err (noted.Skipped last)) = Says (replies.Skipped last)
 
 -- the items that have entered where this is answered to them
 abbrev pub entered_items : List Item → Outcome → List Item

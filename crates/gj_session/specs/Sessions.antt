@@ -9,7 +9,7 @@ use Rattle.gj_reply.specs.declared.fixed.Fixed.TheVariants.{Memory}
 use Rattle.gj_session.specs.Heard.{framing_reply}
 use Rattle.gj_session.specs.Outcomes.{IsReply, outcome_bytes}
 use Rattle.gj_session.specs.Runs.{Exchange, messages_of, exchange_bytes, transcript}
-use Rattle.gj_session.specs.Streams.{Incoming, Outgoing, FailedOnce, Took, Wrote, WrotePart}
+use Rattle.gj_base.specs.Streams.{Incoming, Outgoing, FailedOnce, Took, Wrote, WrotePart}
 use Rattle.gj_session.specs.declared.outcome.Outcome.{Outcome}
 use Rattle.gj_session.specs.declared.outcome.End.{End}
 use Rattle.gj_session.specs.declared.outcome.End.TheVariants.{Finished, Closed, Truncated, Stopped, ReadFault, WriteFault, Turns}

@@ -1,19 +1,21 @@
 //! A seat beside others, as what answers the messages of a session.
-ghost use Rattle.std.specs.Prelude.{◌≡◌, ◌≢◌, ◌+◌, ◌<◌, ◌≤◌, length, IfOk, OnErr, IsErrOf, Ok};
+ghost use Rattle.std.specs.Prelude.{◌≡◌, ◌≢◌, ◌+◌, ◌<◌, ◌≤◌, length, IfOk, OnErr, IsErrOf, Ok, false};
 ghost use Rattle.gj_base.specs.History.{Begins, entries_by, extend};
 ghost use Rattle.gj_base.specs.declared.ask.Ask.TheVariants as asks;
 ghost use Rattle.gj_session.specs.Answers.{window_under};
+ghost use Rattle.gj_session.specs.NotedBatches.{AnswersWhere, noted_after};
 ghost use Rattle.gj_session.specs.Outcomes.{IsLack};
 ghost use Rattle.gj_session.specs.Reference.{reply_of};
-ghost use Rattle.gj_session.specs.SeatReplies.{after_answer, entered_items, outcome_of, outcome_of_refusal};
-ghost use Rattle.gj_session.specs.SeatRuns.{SeatAnswers};
+ghost use Rattle.gj_session.specs.SeatReplies.{after_answer, entered_items, outcome_of, outcome_of_noted, outcome_of_refusal};
+ghost use Rattle.gj_session.specs.SeatRuns.{SeatAnswers, mark_of};
 
 use crate::answering::Answering;
 use crate::outcome::Outcome;
 use crate::replying::answer_on;
-use gj_base::{Conf, Gate, Graph, Grow, ItemList, Keeper, Query, Receipt};
+use gj_base::{Conf, Gate, Graph, Grow, ItemList, Keeper, NotedItems, Query, Receipt};
 use gj_log::Opening;
-use gj_publish::{Batch, Copies, PostError, Seat, Writer};
+use gj_once::Noted;
+use gj_publish::{Batch, Copies, NotedError, PostError, Seat, Writer};
 use gj_reply::{Fixed, Reply};
 use std::alloc::Global;
 use std::sync::{Mutex, Wait};
@@ -84,23 +86,65 @@ fn outcome_to(posted: Result<Receipt, PostError>) -> Outcome
     }
 }
 
+/// What is answered to the post of a numbered batch.
+fn outcome_to_noted(posted: Result<Noted, NotedError>) -> Outcome
+    ensures { result ≡ outcome_of_noted posted }
+{
+    match posted {
+        Ok(Noted::New(receipt)) => Outcome::Says(Reply::Posted {
+            from: receipt.from,
+            length: receipt.to,
+        }),
+        Ok(Noted::Repeated(receipt)) => Outcome::Says(Reply::Repeated {
+            from: receipt.from,
+            length: receipt.to,
+        }),
+        Err(NotedError::Post(why)) => outcome_to_refusal(why),
+        Err(NotedError::RepeatUnseen { receipt: _ }) => Outcome::Stands(Fixed::Memory),
+        Err(NotedError::Old { last }) => Outcome::Says(Reply::Old { last }),
+        Err(NotedError::Skipped { last }) => Outcome::Says(Reply::Skipped { last }),
+    }
+}
+
 /// Whether a segment was filled by what entered from `from` to `to`.
 fn fills(conf: Conf, from: u64, to: u64) -> bool {
     let capacity = u64::from(conf.capacity());
     from / capacity < to / capacity
 }
 
-/// Asks for a compaction where the post filled a segment. Want of memory for it is passed over.
+/// Asks for a compaction where what took these places filled a segment. Want of memory for it is passed over.
 fn compact_filled<J: Opening, C: Copies<Operation = Batch<J>>, K: Keeper + Drop>(
+    writer: &mut Writer<J, C, K>,
+    receipt: Receipt,
+)
+    ensures { writer.new ≡ writer.old }
+{
+    if fills(writer.conf(), receipt.from, receipt.to) {
+        let _ = writer.compact();
+    }
+}
+
+/// The same after a post.
+fn compact_posted<J: Opening, C: Copies<Operation = Batch<J>>, K: Keeper + Drop>(
     writer: &mut Writer<J, C, K>,
     posted: &Result<Receipt, PostError>,
 )
     ensures { writer.new ≡ writer.old }
 {
-    if let Ok(receipt) = posted
-        && fills(writer.conf(), receipt.from, receipt.to)
-    {
-        let _ = writer.compact();
+    if let Ok(receipt) = posted {
+        compact_filled(writer, *receipt);
+    }
+}
+
+/// The same after the post of a numbered batch.
+fn compact_noted<J: Opening, C: Copies<Operation = Batch<J>>, K: Keeper + Drop>(
+    writer: &mut Writer<J, C, K>,
+    posted: &Result<Noted, NotedError>,
+)
+    ensures { writer.new ≡ writer.old }
+{
+    if let Ok(Noted::New(receipt)) = posted {
+        compact_filled(writer, *receipt);
     }
 }
 
@@ -115,13 +159,37 @@ pub fn accept<J: Opening, C: Copies<Operation = Batch<J>>, K: Keeper + Drop, W: 
     requires few { length items ≤ 4096 }
     ensures answers { SeatAnswers J.conf seat.old seat.new (Ok (asks.Items items)) Fixed.NotAccepted result }
     ensures history { writer.new.accepted ≡ extend writer.old.accepted (entries_by seat.old.number (entered_items items result)) }
+    ensures noted { writer.new.noted ≡ writer.old.noted }
     ensures later { writer.old.faults ≤ writer.new.faults }
 {
     // Its contract bounds the length with which a full history is told.
     let _length = writer.length();
     let posted = writer.post(seat, items);
-    compact_filled(writer, &posted);
+    compact_posted(writer, &posted);
     outcome_to(posted)
+}
+
+/// Posts the numbered batch by the seat, and says what came of it: as `accept` does if its number is the next one of its
+/// producer, and else the reply to a batch that had entered, to one that comes before the last one, or to one after a missing
+/// one. It takes the memory of a post, and may wait for looks that began before.
+pub fn accept_noted<J: Opening, C: Copies<Operation = Batch<J>>, K: Keeper + Drop, W: Grow + Drop>(
+    writer: &mut Writer<J, C, K>,
+    seat: &mut Seat<W, J>,
+    asked: NotedItems,
+) -> Outcome
+    ensures answers { SeatAnswers J.conf seat.old seat.new (Ok (asks.Noted asked)) Fixed.NotAccepted result }
+
+    // What the writer had noted says which answer it is, and what enters is noted.
+    ensures judged { AnswersWhere writer.old.noted false seat.old.number (mark_of seat.old) asked result (mark_of seat.new) }
+    ensures noted { writer.new.noted ≡ noted_after writer.old.noted writer.old.accepted asked result }
+    ensures history { writer.new.accepted ≡ extend writer.old.accepted (entries_by seat.old.number (entered_items asked.items result)) }
+    ensures later { writer.old.faults ≤ writer.new.faults }
+{
+    // Its contract bounds the length with which a full history is told.
+    let _length = writer.length();
+    let posted = writer.post_noted(seat, asked);
+    compact_noted(writer, &posted);
+    outcome_to_noted(posted)
 }
 
 /// What seats share: the writer's lock and the gate.
@@ -142,7 +210,7 @@ impl<
     G: Gate,
 > Answering<Hall<'a, R, Writer<J, C, K>, G>> for Seat<W, J> {
     ghost use Rattle.gj_session.specs.SeatRuns.{SeatAnswers};
-    ghost use Rattle.gj_session.specs.SeatLaws.{seat_refused, seat_lacked, seat_stands};
+    ghost use Rattle.gj_session.specs.SeatLaws.{seat_refused, seat_lacked, seat_stands, seat_noted_stands};
 
     ghost answers = { λ x ask lack outcome y. SeatAnswers J.conf x y ask lack outcome };
 
@@ -151,6 +219,8 @@ impl<
     ghost lacked = { λ x ask lack never. seat_lacked J.conf x ask lack never };
 
     ghost briefly = { λ x batch outcome y answered. seat_stands J.conf x y batch outcome answered };
+
+    ghost noted_briefly = { λ x batch outcome y answered. seat_noted_stands J.conf x y batch outcome answered };
 
     fn query(
         &mut self,
@@ -169,6 +239,15 @@ impl<
     fn post(&mut self, shared: &Hall<'a, R, Writer<J, C, K>, G>, items: ItemList) -> Outcome {
         let mut writer = shared.writer.lock(shared.rt);
         accept(&mut *writer, self, items)
+    }
+
+    fn post_noted(
+        &mut self,
+        shared: &Hall<'a, R, Writer<J, C, K>, G>,
+        asked: NotedItems,
+    ) -> Outcome {
+        let mut writer = shared.writer.lock(shared.rt);
+        accept_noted(&mut *writer, self, asked)
     }
 
     fn before(&self, shared: &Hall<'a, R, Writer<J, C, K>, G>, number: u64) {

@@ -22,9 +22,9 @@ mod served;
 mod session;
 mod wire;
 
-pub use accepting::accept_on;
+pub use accepting::{accept_noted_on, accept_on};
 pub use done::Done;
-pub use hall::{AnswerError, accept, answer};
+pub use hall::{AnswerError, accept, accept_noted, answer};
 pub use laws::whole_replies;
 pub use outcome::{End, Outcome};
 pub use replaying::replay_session;

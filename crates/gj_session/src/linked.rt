@@ -14,7 +14,7 @@ pub(crate) struct Wired<L> {
 pub(crate) struct Beside;
 
 impl<L: Link> Wire<Beside> for Wired<L> {
-    ghost use Rattle.gj_session.specs.Streams.{incoming, outgoing};
+    ghost use Rattle.gj_base.specs.Streams.{incoming, outgoing};
 
     ghost coming = { λ s o. incoming (L.tells s.link) (L.stream s.link) (L.read_faults s.link) (L.reads s.link) };
 

@@ -3,11 +3,11 @@ ghost use Rattle.std.specs.Prelude.{◌≡◌, is_some, option_map};
 ghost use Rattle.gj_http.specs.Request.{request};
 ghost use Rattle.gj_request.specs.Requests.{asked, has_id, IsAsked};
 ghost use Rattle.gj_session.specs.Heard.{heard, lack_of, route_reply, lack_at, by_body, LacksBy};
-ghost use Rattle.gj_session.specs.Outcomes.{IsLack, Uncounted, lack_after, query_lack};
+ghost use Rattle.gj_session.specs.Outcomes.{IsLack, Uncounted, lack_after, noted_lack, query_lack};
 
 use crate::answering::Answering;
 use crate::outcome::Outcome;
-use gj_base::{Ask, ItemList, Query, Route};
+use gj_base::{Ask, ItemList, NotedItems, Query, Route};
 use gj_http::{Message, RouteError, Routes};
 use gj_reply::{Fixed, Reply};
 use gj_request::{Refusal, read_request};
@@ -54,6 +54,18 @@ fn lack_for_batch(outcome: &Outcome) -> Fixed
     }
 }
 
+/// The fixed reply that takes the place of what is answered to a numbered batch.
+fn lack_for_noted(outcome: &Outcome) -> Fixed
+    ensures { result ≡ noted_lack outcome.now }
+{
+    match outcome {
+        Outcome::Says(Reply::Posted { .. }) => Fixed::Accepted,
+        Outcome::Says(Reply::Repeated { .. } | Reply::Apart { .. }) => Fixed::Memory,
+        Outcome::Says(_) => Fixed::NotAccepted,
+        Outcome::Stands(which) => *which,
+    }
+}
+
 /// The fixed reply that takes the place of what is answered to a query.
 fn lack_for_query(outcome: &Outcome, lack: Fixed) -> Fixed
     ensures { result ≡ query_lack outcome.now lack }
@@ -93,6 +105,16 @@ fn answer_batch<C, A: Answering<C>>(answerer: &mut A, shared: &C, items: ItemLis
     Answer { outcome, lack }
 }
 
+/// Posts a numbered batch.
+fn answer_noted<C, A: Answering<C>>(answerer: &mut A, shared: &C, asked: NotedItems) -> Answer
+    ensures answers { A.answers answerer.old (Ok (asks.Noted asked)) Fixed.NotAccepted result.outcome answerer.new }
+    ensures lacks { A.answers answerer.old (Ok (asks.Noted asked)) Fixed.NotAccepted (Outcome.Stands result.lack) answerer.new }
+{
+    let outcome = answerer.post_noted(shared, asked);
+    let lack = lack_for_noted(&outcome);
+    Answer { outcome, lack }
+}
+
 ghost use Rattle.std.specs.Prelude.{◌≤◌, length, Ok, Err};
 ghost use Rattle.gj_base.specs.declared.ask.Ask.TheVariants as asks;
 
@@ -112,6 +134,7 @@ fn answer_ask<C, A: Answering<C>>(
 {
     match ask {
         Ask::Items(items) => answer_batch(answerer, shared, items),
+        Ask::Noted(asked) => answer_noted(answerer, shared, asked),
         Ask::Query(query) => answer_query(answerer, shared, alloc, &query, lack),
     }
 }

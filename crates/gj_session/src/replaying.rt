@@ -5,19 +5,20 @@ ghost use Rattle.gj_base.specs.History.{conf_of};
 ghost use Rattle.gj_session.specs.declared.outcome.End.{End};
 ghost use Rattle.gj_session.specs.IndexRuns.{IndexRan, index_at};
 ghost use Rattle.gj_session.specs.Sessions.{Replayed, IsByInput, EndsByInput};
-ghost use Rattle.gj_session.specs.Streams.{incoming, outgoing};
+ghost use Rattle.gj_base.specs.Streams.{incoming, outgoing};
 
 use crate::answering::Alone;
 use crate::outcome::End;
 use crate::session::run_session;
-use gj_base::{Index, Sink, Source};
+use gj_base::{Sink, Source};
 use gj_http::{Framer, Routes};
+use gj_once::NotedIndex;
 use std::alloc::Global;
 
 /// Answers the messages of the source in order, and writes the answers to the sink. `turns` is the most reads, each of at
 /// most 8192 bytes. It takes memory for the asks and the replies, and for each reply of its own one write is made; it
 /// waits where the source or the sink does. What was held by the framer is dropped.
-pub fn replay_session<S: Source, O: Sink, I: Index>(
+pub fn replay_session<S: Source, O: Sink, I: NotedIndex>(
     alloc: Global,
     index: &mut I,
     routes: &Routes,
@@ -28,7 +29,7 @@ pub fn replay_session<S: Source, O: Sink, I: Index>(
 ) -> End
     // What was taken, answered and written, by the end.
     ensures replayed { Replayed
-        (IndexRan (index_at (I.viewed index.old) (I.keeps index.old) (I.faults index.old) (I.steady index.old)) (index_at (I.viewed index.new) (I.keeps index.new) (I.faults index.new) (I.steady index.new)))
+        (IndexRan (index_at (I.viewed index.old) (I.keeps index.old) (I.faults index.old) (I.steady index.old) (I.noted index.old)) (index_at (I.viewed index.new) (I.keeps index.new) (I.faults index.new) (I.steady index.new) (I.noted index.new)))
         (incoming (S.tells input.old) (S.stream input.old) (S.faults input.old) (S.reads input.old))
         (incoming (S.tells input.new) (S.stream input.new) (S.faults input.new) (S.reads input.new))
         (outgoing (O.tells out.old) (O.written out.old) (O.faults out.old) (O.sure out.old))

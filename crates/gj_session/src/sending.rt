@@ -4,7 +4,7 @@ ghost use Rattle.gj_base.specs.Causes.{HasCause};
 ghost use Rattle.gj_session.specs.declared.outcome.Outcome.{Outcome};
 ghost use Rattle.gj_session.specs.Outcomes.{outcome_bytes};
 ghost use Rattle.gj_session.specs.Loop.{GaveOut};
-ghost use Rattle.gj_session.specs.Streams.{Sent};
+ghost use Rattle.gj_base.specs.Streams.{Sent};
 
 use crate::message::Answer;
 use crate::outcome::Outcome;

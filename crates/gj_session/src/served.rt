@@ -3,7 +3,7 @@ ghost use Rattle.std.specs.Prelude.{◌≡◌, ◌≢◌, ◌⊎◌, ◌+◌, �
 ghost use Rattle.gj_base.specs.Causes.{Rose, RoseBy};
 ghost use Rattle.gj_session.specs.SeatRuns.{SameSeat, SeatRan};
 ghost use Rattle.gj_session.specs.Sessions.{Replayed, IsByInput, EndsByInput};
-ghost use Rattle.gj_session.specs.Streams.{incoming, outgoing};
+ghost use Rattle.gj_base.specs.Streams.{incoming, outgoing};
 ghost use Rattle.gj_session.specs.declared.outcome.End.{End};
 
 use crate::done::Done;

@@ -8,7 +8,7 @@ pub(crate) trait Wire<O> {
     ghost use Rattle.std.specs.Prelude.{ℕ, Bool, List, ◌≡◌, ◌+◌, ◌<◌, ◌≤◌, IsTrue, IfOk, IsOk, length};
     ghost use Rattle.gj_base.specs.Causes.{HasCause, one_more};
     ghost use Rattle.gj_base.specs.Stream.{ReadsFrom, WritesTo};
-    ghost use Rattle.gj_session.specs.Streams.{Incoming, Outgoing};
+    ghost use Rattle.gj_base.specs.Streams.{Incoming, Outgoing};
 
     ghost coming: { Self → O → Incoming };
 
@@ -41,7 +41,7 @@ pub(crate) trait Wire<O> {
 }
 
 impl<S: Source, O: Sink> Wire<O> for S {
-    ghost use Rattle.gj_session.specs.Streams.{incoming, outgoing};
+    ghost use Rattle.gj_base.specs.Streams.{incoming, outgoing};
 
     ghost coming = { λ s o. incoming (S.tells s) (S.stream s) (S.faults s) (S.reads s) };
 

@@ -4,7 +4,7 @@ use gj_base::{
     Conf, CountAsk, Graph, Grow, IdList, Item, Kind, KindLeast, ListGraph, Mask, Memory, Query,
     SimAsk, SubAsk, WalkAsk,
 };
-use gj_reply::{Reply, Text, write_reply};
+use gj_reply::{Reply, Status, Text, write_reply};
 use gj_session::answer_on;
 use std::alloc::Global;
 use std::process::Abort;
@@ -36,10 +36,15 @@ fn item(user: u64, post: u64, kind: Kind) -> Item
     }
 }
 
+/// The status and the body of the answer to a query.
+fn text_of(alloc: Global, graph: &ListGraph, query: &Query) -> Result<Text, Memory> {
+    let reply = answer_on(alloc, graph, query)?;
+    write_reply(alloc, &reply)
+}
+
 /// The body of the answer to a query.
 fn body_of(alloc: Global, graph: &ListGraph, query: &Query) -> Result<Vec<u8>, Memory> {
-    let reply = answer_on(alloc, graph, query)?;
-    let Text { status: _, body } = write_reply(alloc, &reply)?;
+    let Text { status: _, body } = text_of(alloc, graph, query)?;
     Ok(body)
 }
 
@@ -266,5 +271,44 @@ fn all_kinds_are_shown_and_counted_apart(rt: HostRuntime) -> Result<(), Fail> {
         post.as_slice(),
         b"{\"length\":16,\"post\":11,\"degree\":2,\"recent\":[{\"user\":4,\"kind\":\"tweet\"},{\"user\":1,\"kind\":\"favorite\"}]}".as_slice()
     );
+    Ok(())
+}
+
+#[test]
+fn a_page_begins_at_each_place_of_the_window_and_at_its_end(rt: HostRuntime) -> Result<(), Fail> {
+    let mut graph = empty_graph(&rt, rt.alloc())?;
+    add(&rt, &mut graph, &[item(1, 10, Kind::Favorite)]);
+    for (from, status, page) in [
+        (
+            0,
+            Status::Ok,
+            b"{\"length\":1,\"from\":0,\"items\":[{\"user\":1,\"post\":10,\"kind\":\"favorite\",\"at\":0}]}".as_slice(),
+        ),
+        (
+            1,
+            Status::Ok,
+            b"{\"length\":1,\"from\":1,\"items\":[]}".as_slice(),
+        ),
+        (
+            2,
+            Status::Conflict,
+            b"{\"error\":\"ahead\",\"length\":1}".as_slice(),
+        ),
+    ] {
+        let text = text_of(rt.alloc(), &graph, &Query::Log(from))?;
+        assert_eq!(rt; text.status, status, "from {from}");
+        assert_eq!(rt; text.body.as_slice(), page, "from {from}");
+    }
+    add(&rt, &mut graph, &[item(2, 20, Kind::Click); 32]);
+    let gone = text_of(rt.alloc(), &graph, &Query::Log(15))?;
+    assert_eq!(rt; gone.status, Status::Conflict);
+    assert_eq!(rt;
+        gone.body.as_slice(),
+        b"{\"error\":\"gone\",\"length\":33,\"base\":16}".as_slice()
+    );
+    let Reply::Log { items, .. } = answer_on(rt.alloc(), &graph, &Query::Log(16))? else {
+        panic!(rt; "no page at the base");
+    };
+    assert_eq!(rt; items.len(), 17);
     Ok(())
 }

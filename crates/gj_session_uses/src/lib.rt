@@ -6,6 +6,8 @@ mod answer_tests;
 #[cfg(test)]
 mod form_tests;
 #[cfg(test)]
+mod noted_tests;
+#[cfg(test)]
 mod served_tests;
 #[cfg(test)]
 mod waiting;

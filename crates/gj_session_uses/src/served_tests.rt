@@ -49,13 +49,13 @@ impl Gate for Recorder {
 
 /// Two sessions that ended.
 #[derive(Drop)]
-struct Both<L> {
-    first: Done<L>,
-    second: Done<L>,
+pub(crate) struct Both<L> {
+    pub first: Done<L>,
+    pub second: Done<L>,
 }
 
 /// A link over the input, in pieces of so many bytes.
-fn link_over(alloc: Global, input: &[u8], piece: usize) -> Option<MemoryLink>
+pub(crate) fn link_over(alloc: Global, input: &[u8], piece: usize) -> Option<MemoryLink>
     requires { 0 < piece }
 {
     let bytes = input.to_vec(alloc).ok()?;
@@ -123,7 +123,7 @@ fn in_turn<J: Opening, R: Wait + Copy + Drop, L: Link + Drop, G: Gate>(
 }
 
 /// The same over a new opening.
-fn served<R: Wait + Copy + Drop, L: Link + Drop, G: Gate>(
+pub(crate) fn served<R: Wait + Copy + Drop, L: Link + Drop, G: Gate>(
     rt: R,
     alloc: Global,
     links: (L, L),

@@ -61,7 +61,7 @@ pub count_stands : (xs : List ℕ) (v : ℕ) → stands_in xs v ≡ true → 0 <
 count_stands [] v h = absurd (let bad : false ≡ true = h in cc)
 count_stands (x ∷ xs) v h = count_case (nat_eq x v) (count_of (x ∷ xs) v) xs v (count_cons x xs v) h (count_stands xs v)
 
-stands_push : (xs : List ℕ) (w v : ℕ) → stands_in (xs ++ w ∷ []) v ≡ (stands_in xs v || nat_eq w v)
+pub stands_push : (xs : List ℕ) (w v : ℕ) → stands_in (xs ++ w ∷ []) v ≡ (stands_in xs v || nat_eq w v)
 stands_push xs w v = list_any-append (λ id. nat_eq id v) xs (w ∷ []) ∙ ap (λ b. stands_in xs v || b) (or-false (nat_eq w v))
 
 -- the vertices of a side stand in it

@@ -7,3 +7,4 @@ pub mod SumLemmas
 pub mod RegroupLemmas
 pub mod ListLemmas
 pub mod RelaidLemmas
+pub mod PlaceLemmas

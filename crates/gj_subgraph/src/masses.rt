@@ -1,7 +1,8 @@
 //! The masses of the posts.
-ghost use Rattle.std.specs.Prelude.{◌≡◌, ◌∷◌, ◌+◌, ◌-◌, ◌*◌, ◌<◌, ◌≤◌, ℕ, [], fold, length, nat_lt, nat_eq, replicate, ◌==◌, ◌&&◌, ◌++◌, if◌then◌else◌, IfOk, OnOk};
+ghost use Rattle.std.specs.Prelude.{◌≡◌, ◌∷◌, ◌+◌, ◌-◌, ◌*◌, ◌<◌, ◌≤◌, ℕ, [], fold, length, nat_lt, nat_eq, replicate, ◌==◌, ◌&&◌, ◌++◌, if◌then◌else◌, is_some, IfOk, OnOk};
 ghost use Rattle.std.specs.HashSet.{contains};
 ghost use Rattle.gj_base.specs.Ends.{passes};
+ghost use Rattle.gj_base.specs.Firsts.{place_of};
 ghost use Rattle.gj_base.specs.Tally.{with_number, sum_of};
 ghost use Rattle.gj_subgraph.specs.Masses.{stands_in, edges_of, users_of, posts_of, vertices, starting, spread, with_mass, total_after, masses_of};
 ghost use Rattle.gj_subgraph.specs.Numbers.{AreNumbered, units_in};
@@ -13,6 +14,7 @@ use crate::relaid::relaid_units;
 use crate::step::half_step;
 use crate::vertices::Vertices;
 use gj_base::{Graph, Item, Mask, Memory, Side, SubAsk, Tally};
+use gj_names::Names;
 use std::alloc::Global;
 use std::collections::HashSet;
 
@@ -127,32 +129,30 @@ fn by_scan<G: Graph>(alloc: Global, graph: &G, ask: &SubAsk) -> Result<Masses, M
     Ok(found)
 }
 
-/// The seed users, as a set.
-fn seed_set(alloc: Global, seeds: &[u64]) -> Result<HashSet<u64>, Memory>
-    ensures { IfOk result (λ set. (user : ℕ) → contains nat_eq set user ≡ stands_in seeds.now user) }
+/// The seed users, each once.
+fn seed_names(alloc: Global, seeds: &[u64]) -> Result<Names, Memory>
+    requires { length seeds.now ≤ 1000 }
+    ensures { IfOk result (λ names. (user : ℕ) → is_some (place_of names.ids user) ≡ stands_in seeds.now user) }
 {
-    let mut set = HashSet::new(alloc);
+    let mut names = Names::new(alloc, seeds.len().max(1) as u32)?;
     for seed in seeds {
-        match set.insert(*seed) {
-            Ok(_) => {}
-            Err(_) => return Err(Memory),
-        }
+        let _place = names.put(*seed);
     }
-    Ok(set)
+    Ok(names)
 }
 
 /// Keeps the user and the post of an interaction that is an edge of the subgraph.
 fn keep_edge(
     item: Item,
     mask: Mask,
-    seeds: &HashSet<u64>,
+    seeds: &Names,
     users: &mut Vec<u64>,
     posts: &mut Vec<u64>,
 ) -> Result<(), Memory>
-    ensures users { OnOk result (users.new.items ≡ (if passes mask item && contains nat_eq seeds.now item.user then users.old.items ++ item.user ∷ [] else users.old.items)) }
-    ensures posts { OnOk result (posts.new.items ≡ (if passes mask item && contains nat_eq seeds.now item.user then posts.old.items ++ item.post ∷ [] else posts.old.items)) }
+    ensures users { OnOk result (users.new.items ≡ (if passes mask item && is_some (place_of seeds.now.ids item.user) then users.old.items ++ item.user ∷ [] else users.old.items)) }
+    ensures posts { OnOk result (posts.new.items ≡ (if passes mask item && is_some (place_of seeds.now.ids item.user) then posts.old.items ++ item.post ∷ [] else posts.old.items)) }
 {
-    if mask.lets(item.kind, item.at) && seeds.contains(&item.user) {
+    if mask.lets(item.kind, item.at) && seeds.find(item.user).is_some() {
         push(users, item.user)?;
         push(posts, item.post)?;
     }
@@ -166,14 +166,15 @@ fn edges<G: Graph>(
     seeds: &[u64],
     mask: Mask,
 ) -> Result<(Vec<u64>, Vec<u64>), Memory>
+    requires { length seeds.now ≤ 1000 }
     ensures users { IfOk result (λ r. r.0.items ≡ users_of (edges_of (G.shown graph.now).items seeds.now mask)) }
     ensures posts { IfOk result (λ r. r.1.items ≡ posts_of (edges_of (G.shown graph.now).items seeds.now mask)) }
 {
-    let set = seed_set(alloc, seeds)?;
+    let names = seed_names(alloc, seeds)?;
     let mut users = Vec::new(alloc);
     let mut posts = Vec::new(alloc);
     for place in graph.base()..graph.length() {
-        keep_edge(graph.item(place), mask, &set, &mut users, &mut posts)?;
+        keep_edge(graph.item(place), mask, &names, &mut users, &mut posts)?;
     }
     Ok((users, posts))
 }

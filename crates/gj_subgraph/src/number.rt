@@ -6,8 +6,12 @@ ghost use Rattle.gj_subgraph.specs.Numbers.{AreNumbers, ArePlaced, AreDegrees, A
 
 use crate::vertices::Vertices;
 use gj_base::Memory;
+use gj_names::Names;
 use std::alloc::Global;
 use std::collections::HashMap;
+
+/// More edges than any window has.
+const MOST_EDGES: usize = 8_388_608;
 
 /// Puts the value at the end.
 pub fn push<T: Drop>(values: &mut Vec<T>, x: T) -> Result<(), Memory>
@@ -56,19 +60,40 @@ pub fn number_of(
     }
 }
 
+/// Room for the vertices of a side, of which there are no more than edges. A window has fewer than `MOST_EDGES`.
+fn room_for(side: &[u64]) -> Result<u32, Memory>
+    ensures { IfOk result (λ room. (length side.now ≤ room) × (1 ≤ room) × (room ≤ MOST_EDGES)) }
+{
+    let room = side.len().max(1);
+    if room > MOST_EDGES {
+        return Err(Memory);
+    }
+    Ok(room as u32)
+}
+
+/// The identifiers as a list.
+fn listed(alloc: Global, names: &Names) -> Result<Vec<u64>, Memory>
+    ensures { IfOk result (λ ids. ids.items ≡ names.now.ids) }
+{
+    let mut ids = Vec::new(alloc);
+    for v in 0..names.len() {
+        push(&mut ids, names.id_of(v))?;
+    }
+    Ok(ids)
+}
+
 /// The vertices of the side, each once, and for each edge the number of its vertex among them.
 fn places_of(alloc: Global, side: &[u64]) -> Result<(Vec<u64>, Vec<usize>), Memory>
     ensures names { IfOk result (λ r. r.0.items ≡ vertices side.now) }
     ensures places { IfOk result (λ r. ArePlaced side.now r.0.items r.1.items) }
 {
-    let mut numbers = HashMap::new(alloc);
-    let mut names = Vec::new(alloc);
+    let mut names = Names::new(alloc, room_for(side)?)?;
     let mut places = Vec::new(alloc);
     for id in side {
-        let number = number_of(&mut numbers, &mut names, *id)?;
-        push(&mut places, number)?;
+        push(&mut places, names.put(*id) as usize)?;
     }
-    Ok((names, places))
+    let ids = listed(alloc, &names)?;
+    Ok((ids, places))
 }
 
 /// As many zeros.

@@ -6,7 +6,20 @@ ghost use Rattle.gj_base.specs.Kinds.{all_kinds};
 ghost use Rattle.gj_window.specs.Segments.{items_of, names_on};
 
 use crate::segments::Segments;
-use gj_base::{Item, Kind, Mask, Side, count_in, end_in, pick};
+use gj_base::{Item, Kind, Mask, SegmentView, Side, count_in, end_in, pick};
+use gj_segment::PoolSegment;
+
+/// How many ends the vertex has in a pool under the mask. One that is not in use has none, and isn't searched.
+#[inline]
+fn count_in_pool(pool: &PoolSegment, side: Side, id: u64, mask: Mask) -> u32
+    ensures exact { result ≡ length (ends pool.now.items side id mask) }
+    ensures in_range { result ≤ 65536 }
+{
+    if pool.len() == 0 {
+        return 0;
+    }
+    count_in(pool, side, id, mask)
+}
 
 impl Segments {
     /// How many interactions they hold.
@@ -40,7 +53,7 @@ impl Segments {
         ensures exact { result ≡ length (ends (self.now.older ++ self.now.newest) side id mask) }
         ensures in_range { result ≤ 131072 }
     {
-        count_in(&self.older, side, id, mask) + count_in(&self.newest, side, id, mask)
+        count_in_pool(&self.older, side, id, mask) + count_in_pool(&self.newest, side, id, mask)
     }
 
     /// One of the ends that the vertex has in the pools under the mask, by its index in order, with its kind.
@@ -48,7 +61,7 @@ impl Segments {
         requires { i < length (ends (self.now.older ++ self.now.newest) side id mask) }
         ensures { slice_get (ends (self.now.older ++ self.now.newest) side id mask) i ≡ Some result }
     {
-        let before = count_in(&self.older, side, id, mask);
+        let before = count_in_pool(&self.older, side, id, mask);
         if i < before {
             end_in(&self.older, side, id, mask, i)
         } else {

@@ -46,7 +46,7 @@ impl Segments {
     {
         let capacity = conf.capacity();
         let room = conf.room();
-        let names = room + room / 4 + 2 * capacity;
+        let names = room + room / 16 + 2 * capacity;
         let directory = Directory::new(alloc, room, names)?;
         let older = PoolSegment::new(alloc, capacity)?;
         let newest = PoolSegment::new(alloc, capacity)?;

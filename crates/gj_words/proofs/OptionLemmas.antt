@@ -2,7 +2,7 @@
 use Rattle.std.proofs.Common.{◌≡◌, ℕ, ◌&&◌, Bool, true, false, List, [], ◌∷◌, length, refl, arith}
 use Rattle.std.specs.Prelude.{Some, None}
 use Rattle.clap.specs.Faults.{is_simple_and_free}
-use Rattle.gj_words.specs.Options.{replay_app, load_app, serve_app}
+use Rattle.gj_words.specs.Options.{replay_app, load_app, follow_app, serve_app}
 use Rattle.gj_words.specs.Tasks.{asked_of, service_of}
 use Rattle.gj_words.specs.Values.{path_in}
 
@@ -23,6 +23,10 @@ replay_simple = refl
 pub load_simple : is_simple_and_free load_app ≡ true
 unfolding load_app
 load_simple = refl
+
+pub follow_simple : is_simple_and_free follow_app ≡ true
+unfolding follow_app
+follow_simple = refl
 
 pub first_of_both : (a b : Bool) → (a && b) ≡ true → a ≡ true
 first_of_both true b e = refl

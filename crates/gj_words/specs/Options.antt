@@ -22,6 +22,9 @@ replay_app = with_rule (window_app (codes "replay")) (option (codes "store"))
 unfoldable pub load_app : App
 load_app = with_rule (with_rule (window_app (codes "load")) (option (codes "number"))) (option (codes "count"))
 
+unfoldable pub follow_app : App
+follow_app = with_rule (window_app (codes "follow")) (option (codes "start"))
+
 unfoldable pub serve_app : App
 serve_app =
     with_rule (with_rule (with_rule (with_rule (window_app (codes "serve")) (option (codes "store"))) (option (codes "workers")))

@@ -1,7 +1,7 @@
 //! The options of each command, as `clap` reads them.
 ghost use Rattle.std.specs.Prelude.{◌≡◌, ◌≢◌, [], IfOk, IfErr, IsErrOf, true, false, map, string_bytes};
 ghost use Rattle.clap.specs.Words.{app_of, fault_of, found_of, is_simple_and_free, matches_of, rows_of, rule_of};
-ghost use Rattle.gj_words.specs.Options.{option, plain_app, window_app, replay_app, load_app, serve_app};
+ghost use Rattle.gj_words.specs.Options.{option, plain_app, window_app, replay_app, load_app, follow_app, serve_app};
 ghost use Rattle.gj_words.specs.declared.task.WordsError.TheVariants as why;
 
 use crate::task::WordsError;
@@ -52,6 +52,14 @@ pub fn load_command<'a>(alloc: Global) -> Result<Command<'a>, AllocError>
     window_command(alloc, "load")?
         .arg(option(alloc, "number"))?
         .arg(option(alloc, "count"))
+}
+
+/// The command that applies pages.
+#[tactic(auto, unfolding(crate::specs::Options::follow_app))]
+pub fn follow_command<'a>(alloc: Global) -> Result<Command<'a>, AllocError>
+    ensures { IfOk result (λ c. app_of c ≡ follow_app) }
+{
+    window_command(alloc, "follow")?.arg(option(alloc, "start"))
 }
 
 /// The command that serves connections.

@@ -3,13 +3,13 @@ ghost use Rattle.std.specs.Prelude.{◌≡◌, ◌≤◌, [], ◌∷◌, IfOk, I
 ghost use Rattle.clap.specs.Words.{app_of, fault_of, found_of, is_simple_and_free, kind_of, first_of, matches_of, rows_of};
 ghost use Rattle.clap.specs.Walk.{is_empty};
 ghost use Rattle.clap.specs.declared.error.kind.ErrorKind.TheVariants as kind;
-ghost use Rattle.gj_words.specs.Options.{replay_app, load_app};
+ghost use Rattle.gj_words.specs.Options.{replay_app, load_app, follow_app};
 ghost use Rattle.gj_words.specs.Values.{number_in, path_in};
-ghost use Rattle.gj_words.specs.Tasks.{IsTask, asked_by, asked_of, conf_in, load_in, replay_in, under};
+ghost use Rattle.gj_words.specs.Tasks.{IsTask, asked_by, asked_of, conf_in, follow_in, load_in, replay_in, under};
 ghost use Rattle.gj_words.specs.declared.task.WordsError.TheVariants as why;
 
 use crate::numbers::{Range, number_of};
-use crate::options::{load_command, replay_command};
+use crate::options::{follow_command, load_command, replay_command};
 use crate::task::{Task, WordsError};
 use clap::error::ErrorKind;
 use clap::{ArgMatches, Command, Error};
@@ -137,6 +137,27 @@ fn load_option<'a>(matches: &ArgMatches<'a>) -> Option<Task<'a>>
     })
 }
 
+fn follow_option<'a>(matches: &ArgMatches<'a>) -> Option<Task<'a>>
+    ensures exact { option_map asked_by result ≡ follow_in (rows_of (found_of matches.now)) }
+    ensures in_range { IfSome result IsTask }
+{
+    let Size { capacity, segments } = size_option(matches)?;
+    let places = Range {
+        least: 0,
+        most: 281_474_976_710_655,
+    };
+    let start = number_option(matches, "start", places, 0)?;
+    if start % u64::from(capacity) == 0 {
+        Some(Task::Follow {
+            capacity,
+            segments,
+            start,
+        })
+    } else {
+        None
+    }
+}
+
 fn read_replay<'a>(alloc: Global, words: &'a [String]) -> Result<Task<'a>, WordsError>
     ensures ok { IfOk result (λ t. under replay_app replay_in (map (λ w. string_bytes w) words.entry.now) ≡ Some (asked_by t)) }
     ensures usage { IsErrOf result why.Usage → under replay_app replay_in (map (λ w. string_bytes w) words.entry.now) ≡ None }
@@ -167,6 +188,21 @@ fn read_load<'a>(alloc: Global, words: &'a [String]) -> Result<Task<'a>, WordsEr
     }
 }
 
+fn read_follow<'a>(alloc: Global, words: &'a [String]) -> Result<Task<'a>, WordsError>
+    ensures ok { IfOk result (λ t. under follow_app follow_in (map (λ w. string_bytes w) words.entry.now) ≡ Some (asked_by t)) }
+    ensures usage { IsErrOf result why.Usage → under follow_app follow_in (map (λ w. string_bytes w) words.entry.now) ≡ None }
+    ensures in_range { IfOk result IsTask }
+{
+    let Ok(mut command) = follow_command(alloc) else {
+        return Err(WordsError::Memory);
+    };
+    let matches = matches_by(&mut command, words)?;
+    match follow_option(&matches) {
+        Some(task) => Ok(task),
+        None => Err(WordsError::Usage),
+    }
+}
+
 /// What the options ask for under a command's name.
 #[tactic(auto, unfolding(crate::specs::Tasks::asked_of))]
 fn read_named<'a>(alloc: Global, name: &str, options: &'a [String]) -> Result<Task<'a>, WordsError>
@@ -178,6 +214,8 @@ fn read_named<'a>(alloc: Global, name: &str, options: &'a [String]) -> Result<Ta
         read_replay(alloc, options)
     } else if name == "load" {
         read_load(alloc, options)
+    } else if name == "follow" {
+        read_follow(alloc, options)
     } else {
         Err(WordsError::Usage)
     }

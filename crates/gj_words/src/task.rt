@@ -16,6 +16,13 @@ pub enum Task<'a> {
         number: u64,
         count: u64,
     },
+    /// To apply pages of a history to a follower whose first place is `start`, 0 to 281474976710655 and a multiple of the
+    /// capacity.
+    Follow {
+        capacity: u32,
+        segments: u32,
+        start: u64,
+    },
 }
 
 /// What the arguments of `serve` ask for: to serve connections at the port of this machine, over a window that the store

@@ -83,6 +83,13 @@ fn told(alloc: Global, line: &str) -> Result<String, Fail> {
                 count,
             },
         ) => format!(in alloc; "load {capacity} {segments} {number} {count}")?,
+        Ok(
+            Task::Follow {
+                capacity,
+                segments,
+                start,
+            },
+        ) => format!(in alloc; "follow {capacity} {segments} {start}")?,
         Err(WordsError::Usage) => String::from_str(alloc, "usage")?,
         Err(WordsError::Memory) => String::from_str(alloc, "memory")?,
     };
@@ -106,6 +113,15 @@ fn arguments_ask_for_a_command_or_nothing(rt: HostRuntime) -> Result<(), Fail> {
             "load 4096 4 18446744073709551615 1000000",
         ),
         ("load --number 0 --capacity 65536", "load 65536 4 0 10000"),
+        ("follow", "follow 4096 4 0"),
+        (
+            "follow --capacity 16 --segments 2 --start 32",
+            "follow 16 2 32",
+        ),
+        (
+            "follow --start 281474976706560",
+            "follow 4096 4 281474976706560",
+        ),
         ("", "usage"),
         ("serve", "usage"),
         ("replays", "usage"),
@@ -128,6 +144,11 @@ fn arguments_ask_for_a_command_or_nothing(rt: HostRuntime) -> Result<(), Fail> {
         ("load --number 18446744073709551616", "usage"),
         ("load --count 0", "usage"),
         ("load --count 1000001", "usage"),
+        ("follow --capacity 16 --start 17", "usage"),
+        ("follow --start 4095", "usage"),
+        ("follow --start 281474976710656", "usage"),
+        ("follow --store posts.db", "usage"),
+        ("follow --count 1", "usage"),
     ] {
         assert_eq!(rt; told(alloc, line)?.as_str(), asked, "{line}");
     }

@@ -1,3 +1,5 @@
+pub mod AskedLemmas
+pub mod FollowLemmas
 pub mod ReplayLemmas
 pub mod SendLemmas
 pub mod ServeLemmas

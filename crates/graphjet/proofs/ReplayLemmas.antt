@@ -2,6 +2,7 @@
 use Rattle.std.proofs.Common.{◌≡◌, inl, inr, ℕ, ◌∙◌, ◌+◌, ◌-◌, ◌^◌, ◌≤◌, min, max, Bool, true, false, IsTrue, List, refl, ap, sym, subst, arith}
 use Rattle.std.specs.Prelude.{Some}
 use Rattle.gj_base.specs.declared.history.History.{History}
+use Rattle.gj_base.specs.declared.keeper.KeptConf.{KeptConf}
 use Rattle.gj_base.specs.declared.keeper.KeptItem.{KeptItem}
 use Rattle.gj_base.specs.Causes.{RoseBy}
 use Rattle.gj_base.specs.Configuration.{Configuration}
@@ -10,15 +11,19 @@ use Rattle.gj_base.specs.Kept.{Kept}
 use Rattle.gj_keep.specs.Books.{Holds, Keeps, told_rows}
 use Rattle.gj_keep.specs.Openings.{IsLeft, due, prepared}
 use Rattle.gj_keep.specs.Rows.{good, opened}
+use Rattle.gj_keep.specs.declared.opening.OpenError.{OpenError}
+use Rattle.gj_keep.specs.declared.opening.OpenError.TheVariants as open_error
+use Rattle.gj_once.specs.declared.verdict.LastBatch.{LastBatch}
 use Rattle.gj_session.proofs.LoopLemmas.{replayed_as}
-use Rattle.gj_session.specs.Answers.{mark_at}
+use Rattle.gj_once.specs.Judging.{nothing_noted}
+use Rattle.gj_session.specs.Marks.{mark_at}
 use Rattle.gj_session.specs.IndexRuns.{IndexAt, IndexRan}
 use Rattle.gj_session.specs.Runs.{Exchange, Run}
-use Rattle.gj_session.specs.Streams.{Incoming, Outgoing}
-use Rattle.graphjet.specs.Replays.{Ran, Headline, OpensOver, Judges, Replays}
-use Rattle.graphjet.specs.Statuses.{is_session}
+use Rattle.gj_base.specs.Streams.{Incoming, Outgoing}
+use Rattle.graphjet.specs.Replays.{Ran, Headline, OpensOver, Judges, Replays, TellsConf, TellsRow}
+use Rattle.graphjet.specs.Statuses.{is_session, status_of_refusal}
 use Rattle.graphjet.specs.declared.run_status.RunStatus.{RunStatus}
-use Rattle.graphjet.specs.declared.run_status.RunStatus.TheVariants.{Usage}
+use Rattle.graphjet.specs.declared.run_status.RunStatus.TheVariants.{ConfDiffers, KeptRow, Usage}
 
 -- the history with which an index over a keeper begins
 pub pick_opening : (conf : Configuration) (kept : Kept) (P : History → Type 0) → ((rows : List KeptItem) × IsTrue (good conf rows) × P (opened rows))
@@ -34,15 +39,15 @@ pick_opening conf kept P rows told bare untold = by_tells kept.tells kept.bare r
     by_tells true b t e = (opened (told_rows kept), (told t, record { told = λ yes. refl; bare = λ yes. (let no = untold yes in cc) }))
     by_tells false b t e = by_bare b t e
 
--- a run over an index is one from each history that it kept
+-- a run over an index of which nothing was noted is one from each history that it kept
 pub ran_from : (conf : Configuration) (opening : History) (a b : IndexAt) (left : History → Type 0) (exchanges : List Exchange)
-    → conf_of a.viewed ≡ conf → StandsFor a.viewed opening → a.keeps opening → ((h : History) → b.keeps h → left h)
+    → conf_of a.viewed ≡ conf → a.noted ≡ nothing_noted → StandsFor a.viewed opening → a.keeps opening → ((h : History) → b.keeps h → left h)
     → IndexRan a b exchanges → Ran conf opening left a.faults b.faults a.steady exchanges
-ran_from conf opening a b left exchanges same stands kept ends ran = record {
+ran_from conf opening a b left exchanges same fresh stands kept ends ran = record {
   runs = λ seat.
       let x = ran.runs opening seat stands in
-      let Leads : Configuration → Type 0 = λ c. Run c true seat (mark_at seat opening) (mark_at seat x.0) exchanges in
-      (x.0, (subst Leads same x.1.0, ends x.0 (x.1.1.keeps kept)));
+      let Leads : Configuration → List LastBatch → Type 0 = λ c lasts. Run c true seat (mark_at seat opening lasts) (mark_at seat x.0 b.noted) exchanges in
+      (x.0, b.noted, (subst (λ (lasts : List LastBatch). Leads conf lasts) fresh (subst (λ (c : Configuration). Leads c a.noted) same x.1.0), ends x.0 (x.1.1.keeps kept)));
   stores = ran.stores;
   steady = λ sure. (ran.steady sure).0;
 }
@@ -52,7 +57,7 @@ pub ran_as : (conf : Configuration) (opening : History) (left left' : History �
     → ((h : History) → left h → left' h) → ((n : ℕ) → RoseBy n a b → RoseBy n a' b') → (IsTrue sure' → IsTrue sure)
     → Ran conf opening left a b sure exchanges → Ran conf opening left' a' b' sure' exchanges
 ran_as conf opening left left' a b a' b' sure sure' exchanges ends rose still ran = record {
-  runs = λ seat. (let x = ran.runs seat in (x.0, (x.1.0, ends x.0 x.1.1)));
+  runs = λ seat. (let x = ran.runs seat in (x.0, x.1, (x.2.0, ends x.0 x.2.1)));
   stores = rose _ ran.stores;
   steady = λ s. ran.steady (still s);
 }
@@ -79,9 +84,9 @@ pub replays_home : (conf : Configuration) (path : List ℕ) (old new : Kept) (ke
     → (IsTrue sure → IsTrue steady)
     → (IsTrue (is_session status) → Headline conf (OpensOver kept) (Keeps conf kept') k k' steady i j o p status)
     → (is_session status ≡ false → IsLeft conf kept kept')
-    → (IsTrue kept.tells → Judges (due conf kept) status) → (status ≡ Usage → ⊥)
+    → (IsTrue kept.tells → Judges (due conf kept) status) → TellsConf conf status → TellsRow conf status → (status ≡ Usage → ⊥)
     → Replays conf (Some path) (record { stored = old; faults = f; steady = sure }) (record { stored = new; faults = f'; steady = sure' }) i j o p status
-replays_home conf path old new kept kept' f f' k k' own sure sure' steady i j o p status out told home known count still session left judged asked = record {
+replays_home conf path old new kept kept' f f' k k' own sure sure' steady i j o p status out told home known count still session left judged differs bad asked = record {
   session = λ s. (let h = session s in record {
     opening = h.opening;
     opened = λ yes. (let is = out yes in h.opened.told (ap (λ (x : Kept). x.tells) is ∙ yes) ∙ ap (λ (x : Kept). opened (told_rows x)) is);
@@ -93,6 +98,8 @@ replays_home conf path old new kept kept' f f' k k' own sure sure' steady i j o 
     by_input = h.by_input;
   });
   judged = λ yes. (let is = out yes in subst (λ (x : Kept). Judges (due conf x) status) is (judged (ap (λ (x : Kept). x.tells) is ∙ yes)));
+  differs = differs;
+  bad = bad;
   asked = asked;
   kept = λ no yes. (
       let is = out yes in
@@ -102,3 +109,18 @@ replays_home conf path old new kept kept' f f' k k' own sure sure' steady i j o 
         | inr e ↦ inr (at ∙ e ∙ ap (prepared conf) is)
       ]);
 }
+
+-- a status that tells two configurations, or a row, comes of a refusal that does
+pub conf_told : (refusal : OpenError) (kept now : KeptConf) → status_of_refusal refusal ≡ ConfDiffers kept now → refusal ≡ open_error.ConfDiffers kept now
+conf_told open_error.Memory kept now e = cc
+conf_told open_error.Store kept now e = cc
+conf_told (open_error.ConfDiffers old asked) kept now e = cc
+conf_told (open_error.KeptRow row) kept now e = cc
+conf_told open_error.Place kept now e = cc
+
+pub row_told : (refusal : OpenError) (row : ℕ) → status_of_refusal refusal ≡ KeptRow row → refusal ≡ open_error.KeptRow row
+row_told open_error.Memory row e = cc
+row_told open_error.Store row e = cc
+row_told (open_error.ConfDiffers old asked) row e = cc
+row_told (open_error.KeptRow bad) row e = cc
+row_told open_error.Place row e = cc

@@ -11,12 +11,12 @@ use Rattle.gj_keep.specs.Openings.{IsLeft, due, opening_of, prepared}
 use Rattle.gj_keep.specs.Rows.{opened}
 use Rattle.gj_keep.specs.declared.opening.OpenError.{OpenError}
 use Rattle.gj_keep.specs.declared.opening.OpenError.TheVariants as why
-use Rattle.gj_service.specs.Services.{DoorAt, HasRoom, IsOpened, IsUnserved, Judges, Service}
+use Rattle.gj_service.specs.Services.{DoorAt, HasRoom, IsOpened, IsUnserved, Judges, Service, TellsConf, TellsRow}
 use Rattle.gj_service.specs.declared.end.ServiceEnd.{ServiceEnd}
 use Rattle.gj_service.specs.declared.end.ServiceEnd.TheVariants as ends
 use Rattle.gj_service.specs.declared.plan.Plan.{Plan}
 use Rattle.gj_service.proofs.ServiceLemmas.{service_as}
-use Rattle.gj_session.specs.Streams.{Outgoing}
+use Rattle.gj_base.specs.Streams.{Outgoing}
 use Rattle.gj_words.specs.Tasks.{Serving}
 use Rattle.graphjet.proofs.ReplayLemmas.{keeps_home}
 use Rattle.graphjet.specs.Replays.{StoresAt}
@@ -41,15 +41,17 @@ pub serves_home : (conf : Configuration) (path : List ℕ) (plan : Plan) (old ne
     → (IsTrue old.tells → kept ≡ old) → new.tells ≡ old.tells → (IsTrue old.tells → new ≡ kept') → (IsTrue kept.bare → kept.tells ≡ false)
     → (IsOpened end → Service plan (λ h. IfSome (opening_of kept) (λ x. x ≡ h)) (Keeps conf kept') d e o p end)
     → (IsUnserved end → IsLeft conf kept kept')
-    → (IsTrue kept.tells → Judges (due conf kept) end)
+    → (IsTrue kept.tells → Judges (due conf kept) end) → TellsConf conf end → TellsRow conf end
     → Serves conf (Some path) plan (record { stored = old; faults = f; steady = sure }) (record { stored = new; faults = f'; steady = sure' }) d e o p end
-serves_home conf path plan old new kept kept' f f' sure sure' d e o p end out told home untold service left judged = record {
+serves_home conf path plan old new kept kept' f f' sure sure' d e o p end out told home untold service left judged differs bad = record {
   service = λ is.
       service_as plan _ _ _ _ d e o p end
       (λ h k yes. (let same = out yes in known_told kept h (ap (λ (x : Kept). x.tells) same ∙ yes) untold k ∙ ap (λ (x : Kept). opened (told_rows x)) same))
       (λ h. keeps_home conf old new kept' h told home)
       (service is);
   judged = λ yes. (let is = out yes in subst (λ (x : Kept). Judges (due conf x) end) is (judged (ap (λ (x : Kept). x.tells) is ∙ yes)));
+  differs = differs;
+  bad = bad;
   kept = λ no yes. (
       let is = out yes in
       let at = home yes in
@@ -61,12 +63,12 @@ serves_home conf path plan old new kept kept' f f' sure sure' d e o p end out to
 
 -- before the keeper nothing is done
 pub serves_not : (conf : Configuration) (path : List ℕ) (plan : Plan) (a b : StoresAt) (d : DoorAt) (o : Outgoing) (error : OpenError) → b.stored ≡ a.stored
-    → ((refusal : Option OpenError) → Judges refusal (ends.Refused error)) → Serves conf (Some path) plan a b d d o o (ends.Refused error)
-serves_not conf path plan a b d o error same may = record { service = λ is. absurd is; judged = λ yes. may (due conf a.stored); kept = λ no yes. inl same }
+    → ((refusal : Option OpenError) → Judges refusal (ends.Refused error)) → TellsConf conf (ends.Refused error) → TellsRow conf (ends.Refused error) → Serves conf (Some path) plan a b d d o o (ends.Refused error)
+serves_not conf path plan a b d o error same may differs bad = record { service = λ is. absurd is; judged = λ yes. may (due conf a.stored); differs = differs; bad = bad; kept = λ no yes. inl same }
 
 serves_lack : (conf : Configuration) (store : Option (List ℕ)) (plan : Plan) (a : StoresAt) (d : DoorAt) (o : Outgoing) → Serves conf store plan a a d d o o (ends.Refused why.Memory)
-serves_lack conf None plan a d o = record { service = λ is. absurd is; judged = (tt, λ e. cc); kept = λ no yes. inl refl }
-serves_lack conf (Some path) plan a d o = record { service = λ is. absurd is; judged = λ yes. tt; kept = λ no yes. inl refl }
+serves_lack conf None plan a d o = record { service = λ is. absurd is; judged = (tt, λ e. cc); differs = λ x y e. cc; bad = λ x e. cc; kept = λ no yes. inl refl }
+serves_lack conf (Some path) plan a d o = record { service = λ is. absurd is; judged = λ yes. tt; differs = λ x y e. cc; bad = λ x e. cc; kept = λ no yes. inl refl }
 
 -- memory was wanting for the words
 pub does_lack : (asked : Option Serving) (a : StoresAt) (d : DoorAt) (o : Outgoing) → DoesServe asked a a d d o o Memory

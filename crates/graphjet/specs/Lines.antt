@@ -26,7 +26,7 @@ row_line row = numbered (codes "kept row ") row ++ codes "\n"
 -- the line that says why a run ended so
 abbrev pub line_of : RunStatus → List ℕ
 line_of Done = []
-line_of Usage = codes "usage: graphjet replay|serve|load [options]\n"
+line_of Usage = codes "usage: graphjet replay|serve|load|follow [options]\n"
 line_of ReadFault = codes "read fault\n"
 line_of WriteFault = codes "write fault\n"
 line_of StoreFault = codes "store fault\n"

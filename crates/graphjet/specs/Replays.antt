@@ -1,28 +1,31 @@
 -- What the program promises of a replay.
 use Rattle.std.specs.Prelude.{◌≡◌, ◌⊎◌, ℕ, ◌^◌, ◌<◌, ◌≤◌, Bool, true, false, IsTrue, List, length, Option, Some, None}
 use Rattle.gj_base.specs.declared.history.History.{History}
+use Rattle.gj_base.specs.declared.keeper.KeptConf.{KeptConf}
 use Rattle.gj_base.specs.Causes.{Rose, RoseBy}
 use Rattle.gj_base.specs.Configuration.{Configuration}
 use Rattle.gj_base.specs.History.{empty_history}
 use Rattle.gj_base.specs.Kept.{Kept}
-use Rattle.gj_keep.specs.Books.{Keeps, told_rows}
-use Rattle.gj_keep.specs.Openings.{due, prepared}
+use Rattle.gj_keep.specs.Books.{Keeps, asked, suits, told_rows}
+use Rattle.gj_keep.specs.Openings.{IsBadRow, due, prepared}
 use Rattle.gj_keep.specs.Rows.{opened}
 use Rattle.gj_keep.specs.declared.opening.OpenError.{OpenError}
 use Rattle.gj_keep.specs.declared.opening.OpenError.TheVariants as open_error
-use Rattle.gj_session.specs.Answers.{mark_at}
+use Rattle.gj_once.specs.declared.verdict.LastBatch.{LastBatch}
+use Rattle.gj_once.specs.Judging.{nothing_noted}
+use Rattle.gj_session.specs.Marks.{mark_at}
 use Rattle.gj_session.specs.Runs.{Exchange, Run, stores_in}
 use Rattle.gj_session.specs.Sessions.{Replayed, IsByInput, EndsByInput}
-use Rattle.gj_session.specs.Streams.{Incoming, Outgoing}
+use Rattle.gj_base.specs.Streams.{Incoming, Outgoing}
 use Rattle.gj_session.specs.declared.outcome.End.{End}
 use Rattle.graphjet.specs.Statuses.{is_session, status_of_end}
 use Rattle.graphjet.specs.declared.run_status.RunStatus.{RunStatus}
 use Rattle.graphjet.specs.declared.run_status.RunStatus.TheVariants.{Done, Usage, ReadFault, WriteFault, StoreFault, Truncated, Memory, DoorFault, StoppedEarly, TooManyReads, ConfDiffers, KeptRow, NoPlace}
 
--- a run alone from the opening history to one that was left; the answers by the store's fault are at most as many as the
+-- a run alone from the opening history, with no batch noted of any producer, to one that was left; the answers by the store's fault are at most as many as the
 -- rise of its count, and none where it is sure that no call fails
 pub record Ran (conf : Configuration) (opening : History) (left : History → Type 0) (faults faults_after : ℕ) (sure : Bool) (exchanges : List Exchange) : Type 0 where
-  pub runs : (seat : ℕ) → (new : History) × (Run conf true seat (mark_at seat opening) (mark_at seat new) exchanges × left new)
+  pub runs : (seat : ℕ) → (new : History) × (noted : List LastBatch) × (Run conf true seat (mark_at seat opening nothing_noted) (mark_at seat new noted) exchanges × left new)
   pub stores : RoseBy (stores_in exchanges) faults faults_after
   pub steady : IsTrue sure → stores_in exchanges ≡ 0
 
@@ -58,6 +61,14 @@ Judges refusal WriteFault = refusal ≡ None
 Judges refusal Truncated = refusal ≡ None
 Judges refusal StoppedEarly = refusal ≡ None
 Judges refusal TooManyReads = refusal ≡ None
+
+-- where the status tells two configurations, the kept one doesn't suit the run's, and the other is the run's
+abbrev pub TellsConf : Configuration → RunStatus → Type 0
+TellsConf conf status = (kept now : KeptConf) → status ≡ ConfDiffers kept now → (suits conf (Some kept) ≡ false) × (now ≡ asked conf)
+
+-- where the status tells a row, this is the first bad one of some rows
+abbrev pub TellsRow : Configuration → RunStatus → Type 0
+TellsRow conf status = (row : ℕ) → status ≡ KeptRow row → IsBadRow conf row
 
 -- stores at one moment: what they keep, how often a call of them failed, and whether none fails from here on
 pub record StoresAt : Type 0 where
@@ -102,6 +113,8 @@ pub record Replays (conf : Configuration) (store : Option (List ℕ)) (a b : Sto
   pub session : IsTrue (is_session status)
       → Headline conf (Opens store a.stored) (Leaves store conf b.stored) (faults_in store a.faults) (faults_in store b.faults) (steady_in store a.steady) in_old in_new out_old out_new status
   pub judged : IsJudged store conf a.stored status
+  pub differs : TellsConf conf status
+  pub bad : TellsRow conf status
   pub asked : status ≡ Usage → ⊥
   pub kept : is_session status ≡ false → IsKept conf a.stored b.stored
 

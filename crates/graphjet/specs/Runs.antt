@@ -2,8 +2,9 @@
 use Rattle.std.specs.Prelude.{◌≡◌, ◌⊎◌, ◌<◌, ℕ, IsTrue, List, length, ◌++◌, take, Option, Some, None}
 use Rattle.gj_base.specs.Causes.{Rose}
 use Rattle.gj_load.specs.Totals.{totals_of}
-use Rattle.gj_session.specs.Streams.{Incoming, Outgoing, Wrote, AppendsPart}
-use Rattle.gj_words.specs.Tasks.{Asked, Replay, Load}
+use Rattle.gj_base.specs.Streams.{Incoming, Outgoing, Wrote, AppendsPart}
+use Rattle.gj_words.specs.Tasks.{Asked, Replay, Load, Follow}
+use Rattle.graphjet.specs.Follows.{Follows}
 use Rattle.graphjet.specs.Lines.{line_of, summary_of}
 use Rattle.graphjet.specs.Replays.{Replays, StoresAt}
 use Rattle.graphjet.specs.Statuses.{code_of}
@@ -22,6 +23,7 @@ abbrev pub Does : Option Asked → StoresAt → StoresAt → Incoming → Incomi
 Does None a b in_old in_new out_old out_new status = (status ≡ Usage) ⊎ (status ≡ Memory)
 Does (Some (Replay conf store)) a b in_old in_new out_old out_new status = Replays conf store a b in_old in_new out_old out_new status
 Does (Some (Load conf number count)) a b in_old in_new out_old out_new status = Loads (summary_of (totals_of conf number count)) out_old out_new status
+Does (Some (Follow conf start)) a b in_old in_new out_old out_new status = Follows conf start in_old in_new out_old out_new status
 
 -- a run did what was asked for and told its status: the line that says why was written, or a beginning of it where a
 -- write failed

@@ -6,11 +6,11 @@ use Rattle.gj_base.specs.Kept.{Kept}
 use Rattle.gj_keep.specs.Openings.{due}
 use Rattle.gj_keep.specs.declared.opening.OpenError.{OpenError}
 use Rattle.gj_keep.specs.declared.opening.OpenError.TheVariants as why
-use Rattle.gj_service.specs.Services.{DoorAt, IsOpened, IsUnserved, Judges, Service}
+use Rattle.gj_service.specs.Services.{DoorAt, IsOpened, IsUnserved, Judges, Service, TellsConf, TellsRow}
 use Rattle.gj_service.specs.declared.end.ServiceEnd.{ServiceEnd}
 use Rattle.gj_service.specs.declared.end.ServiceEnd.TheVariants as ends
 use Rattle.gj_service.specs.declared.plan.Plan.{Plan}
-use Rattle.gj_session.specs.Streams.{Outgoing}
+use Rattle.gj_base.specs.Streams.{Outgoing}
 use Rattle.gj_words.specs.Tasks.{Serving}
 use Rattle.graphjet.specs.Lines.{line_of}
 use Rattle.graphjet.specs.Replays.{IsKept, Leaves, Opens, StoresAt}
@@ -43,6 +43,8 @@ IsServable (Some path) conf stored end = IsTrue stored.tells → Judges (due con
 pub record Serves (conf : Configuration) (store : Option (List ℕ)) (plan : Plan) (a b : StoresAt) (d e : DoorAt) (old new : Outgoing) (end : ServiceEnd) : Type 0 where
   pub service : IsOpened end → Service plan (Opens store a.stored) (Leaves store conf b.stored) d e old new end
   pub judged : IsServable store conf a.stored end
+  pub differs : TellsConf conf end
+  pub bad : TellsRow conf end
   pub kept : IsUnserved end → IsKept conf a.stored b.stored
 
 -- a service did what was asked for, or there were no such words

@@ -72,7 +72,7 @@ pub fn status_line(status: RunStatus) -> ArrayString<256>
 {
     match status {
         RunStatus::Done => plain(""),
-        RunStatus::Usage => plain("usage: graphjet replay|serve|load [options]\n"),
+        RunStatus::Usage => plain("usage: graphjet replay|serve|load|follow [options]\n"),
         RunStatus::ReadFault => plain("read fault\n"),
         RunStatus::WriteFault => plain("write fault\n"),
         RunStatus::StoreFault => plain("store fault\n"),

@@ -2,7 +2,7 @@
 ghost use Rattle.std.specs.Prelude.{◌≡◌, ◌<◌, ◌≤◌, length, IfSome};
 ghost use Rattle.gj_base.specs.Causes.{Rose};
 ghost use Rattle.gj_load.specs.Totals.{totals_of};
-ghost use Rattle.gj_session.specs.Streams.{outgoing};
+ghost use Rattle.gj_base.specs.Streams.{outgoing};
 ghost use Rattle.graphjet.specs.Lines.{summary_of};
 ghost use Rattle.graphjet.specs.Runs.{Loads};
 ghost use Rattle.graphjet.specs.declared.run_status.RunStatus.TheVariants as statuses;

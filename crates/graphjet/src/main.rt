@@ -1,14 +1,20 @@
 //! graphjet: the program. It serves connections over loopback, answers a recorded stream of HTTP requests from standard
-//! input to standard output, and makes workloads; with `--store` the window is kept in an SQLite file.
+//! input to standard output, makes workloads, and follows the pages of another server's history; with `--store` the window
+//! is kept in an SQLite file.
 #![tactic(auto)]
 
 mod arguments;
 mod devices;
 #[cfg(test)]
 mod edge_tests;
+#[cfg(test)]
+mod follow_tests;
+mod following;
 mod lines;
 mod loading;
 mod local;
+#[cfg(test)]
+mod number_tests;
 mod replaying;
 mod run_status;
 #[cfg(test)]
@@ -69,7 +75,8 @@ fn serve<
     status
 }
 
-/// Replays standard input or makes a workload, as the arguments ask, over files of this machine.
+/// Replays standard input, makes a workload, or follows the pages of standard input, as the arguments ask, over files of this
+/// machine.
 fn run<O: Sink, E: Sink>(rt: &HostRuntime, words: &[String], out: &mut O, err: &mut E) -> u8 {
     run_local(
         rt.alloc(),

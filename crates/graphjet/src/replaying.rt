@@ -3,34 +3,40 @@ ghost use Rattle.std.specs.Prelude.{◌≡◌, ◌≢◌, ◌+◌, ◌^◌, ◌<
 ghost use Rattle.gj_base.specs.Causes.{Rose, one_more};
 ghost use Rattle.gj_keep.specs.Books.{Keeps};
 ghost use Rattle.gj_keep.specs.Openings.{IsLeft, due};
-ghost use Rattle.gj_session.specs.Streams.{incoming, outgoing};
-ghost use Rattle.graphjet.specs.Replays.{Headline, Judges, OpensOver, Replays, stores_at};
+ghost use Rattle.gj_once.specs.Judging.{nothing_noted};
+ghost use Rattle.gj_base.specs.Streams.{incoming, outgoing};
+ghost use Rattle.graphjet.specs.Replays.{Headline, Judges, OpensOver, Replays, TellsConf, TellsRow, stores_at};
 ghost use Rattle.graphjet.specs.Statuses.{is_session};
 ghost use Rattle.graphjet.specs.declared.run_status.RunStatus.TheVariants as statuses;
 
-use crate::run_status::{RunStatus, status_of, status_of_refusal};
+use crate::run_status::{RunStatus, TURNS, status_of, status_of_refusal};
 use gj_base::{Conf, Grow, KeepError, Keeper, Keepers, Memory, Sink, Source};
 use gj_http::{Framer, Routes};
 use gj_keep::{Local, NoKeeper, OpenRefused};
+use gj_once::{Once, OnceIndex};
 use gj_session::replay_session;
 use gj_window::Window;
 use std::alloc::Global;
 
-/// The most reads of a session.
-const TURNS: u64 = 1_099_511_627_776;
-
-/// What a session needs beside its index and its streams.
+/// What a session needs beside its index and its streams. No batch of a producer is noted yet.
 #[derive(Drop)]
 struct Tools {
     routes: Routes,
     framer: Framer,
+    once: Once,
+    ghost fresh: { once ≡ nothing_noted },
 }
 
 impl Tools {
     fn new(alloc: Global) -> Result<Tools, Memory> {
         let routes = Routes::new(alloc)?;
         let framer = Framer::new(alloc)?;
-        Ok(Tools { routes, framer })
+        let once = Once::new(alloc)?;
+        Ok(Tools {
+            routes,
+            framer,
+            once,
+        })
     }
 }
 
@@ -40,12 +46,13 @@ struct Over<K> {
     status: RunStatus,
 }
 
-/// Replays the stream over the window that the keeper keeps. It takes the memory of the window before the session.
+/// Replays the stream over the window that the keeper keeps, where each numbered batch of a producer acts once. It takes
+/// the memory of the window before the session.
 fn replay_over<K: Keeper, W: Grow + Drop, S: Source, O: Sink>(
     alloc: Global,
     conf: Conf,
     keeper: K,
-    tools: &mut Tools,
+    tools: Tools,
     input: &mut S,
     out: &mut O,
 ) -> Over<K>
@@ -61,7 +68,10 @@ fn replay_over<K: Keeper, W: Grow + Drop, S: Source, O: Sink>(
     ensures left { is_session result.status ≡ false → IsLeft conf (K.kept keeper) (K.kept result.keeper) }
     ensures judged { IsTrue (K.kept keeper).tells → Judges (due conf (K.kept keeper)) result.status }
     ensures bare { IsTrue (K.kept keeper).bare → Judges None result.status }
+    ensures differs { TellsConf conf result.status }
+    ensures bad { TellsRow conf result.status }
     ensures asked { result.status ≢ statuses.Usage }
+    ensures local { (result.status ≢ statuses.DoorFault) × (result.status ≢ statuses.NoPlace) }
 
     // The causes of faults.
     ensures store_cause { result.status ≡ statuses.StoreFault → K.faults result.keeper ≡ one_more (K.faults keeper) }
@@ -78,11 +88,16 @@ fn replay_over<K: Keeper, W: Grow + Drop, S: Source, O: Sink>(
             keeper,
             status: status_of_refusal(why),
         },
-        Ok(mut index) => {
-            let Tools { routes, framer } = tools;
-            let end = replay_session(alloc, &mut index, routes, framer, input, out, TURNS);
+        Ok(index) => {
+            let Tools {
+                routes,
+                mut framer,
+                once,
+            } = tools;
+            let mut index = OnceIndex::new(index, once);
+            let end = replay_session(alloc, &mut index, &routes, &mut framer, input, out, TURNS);
             Over {
-                keeper: index.into_keeper(),
+                keeper: index.into_index().into_keeper(),
                 status: status_of(end),
             }
         }
@@ -93,7 +108,7 @@ fn replay_over<K: Keeper, W: Grow + Drop, S: Source, O: Sink>(
 fn replay_bare<S: Source, O: Sink>(
     alloc: Global,
     conf: Conf,
-    tools: &mut Tools,
+    tools: Tools,
     input: &mut S,
     out: &mut O,
 ) -> RunStatus
@@ -102,6 +117,7 @@ fn replay_bare<S: Source, O: Sink>(
         (incoming (S.tells input.new) (S.stream input.new) (S.faults input.new) (S.reads input.new))
         (outgoing (O.tells out.old) (O.written out.old) (O.faults out.old) (O.sure out.old))
         (outgoing (O.tells out.new) (O.written out.new) (O.faults out.new) (O.sure out.new)) result }
+    ensures local { (result ≢ statuses.DoorFault) × (result ≢ statuses.NoPlace) }
     ensures untouched { is_session result ≡ false → (input.new ≡ input.old) × (out.new ≡ out.old) }
     ensures causes { Causes
         (incoming (S.tells input.old) (S.stream input.old) (S.faults input.old) (S.reads input.old))
@@ -124,7 +140,7 @@ fn replay_stored<P: Keepers, S: Source, O: Sink>(
     alloc: Global,
     conf: Conf,
     path: &str,
-    tools: &mut Tools,
+    tools: Tools,
     input: &mut S,
     out: &mut O,
     stores: &mut P,
@@ -135,6 +151,7 @@ fn replay_stored<P: Keepers, S: Source, O: Sink>(
         (incoming (S.tells input.new) (S.stream input.new) (S.faults input.new) (S.reads input.new))
         (outgoing (O.tells out.old) (O.written out.old) (O.faults out.old) (O.sure out.old))
         (outgoing (O.tells out.new) (O.written out.new) (O.faults out.new) (O.sure out.new)) result }
+    ensures local { (result ≢ statuses.DoorFault) × (result ≢ statuses.NoPlace) }
     ensures untouched { is_session result ≡ false → (input.new ≡ input.old) × (out.new ≡ out.old) }
     ensures home { IsTrue (P.home stores.new) }
     ensures later { P.faults stores.old ≤ P.faults stores.new }
@@ -176,6 +193,7 @@ pub fn replay<P: Keepers, S: Source, O: Sink>(
         (incoming (S.tells input.new) (S.stream input.new) (S.faults input.new) (S.reads input.new))
         (outgoing (O.tells out.old) (O.written out.old) (O.faults out.old) (O.sure out.old))
         (outgoing (O.tells out.new) (O.written out.new) (O.faults out.new) (O.sure out.new)) result }
+    ensures local { (result ≢ statuses.DoorFault) × (result ≢ statuses.NoPlace) }
     ensures untouched { is_session result ≡ false → (input.new ≡ input.old) × (out.new ≡ out.old) }
     ensures home { IsTrue (P.home stores.new) }
     ensures later { P.faults stores.old ≤ P.faults stores.new }
@@ -189,11 +207,11 @@ pub fn replay<P: Keepers, S: Source, O: Sink>(
         (outgoing (O.tells out.new) (O.written out.new) (O.faults out.new) (O.sure out.new)) (S.steady input.old) result }
     ensures room { IsTrue (O.tells out.old) → result ≡ statuses.WriteFault → O.sure out.old + length (O.written out.old) ≤ length (O.written out.new) }
 {
-    let Ok(mut tools) = Tools::new(alloc) else {
+    let Ok(tools) = Tools::new(alloc) else {
         return RunStatus::Memory;
     };
     match store {
-        None => replay_bare(alloc, conf, &mut tools, input, out),
-        Some(path) => replay_stored(alloc, conf, path, &mut tools, input, out, stores),
+        None => replay_bare(alloc, conf, tools, input, out),
+        Some(path) => replay_stored(alloc, conf, path, tools, input, out, stores),
     }
 }

@@ -4,6 +4,9 @@ use gj_base::KeptConf;
 use gj_keep::OpenError;
 use gj_session::End;
 
+/// The most reads of a run over an input.
+pub const TURNS: u64 = 1_099_511_627_776;
+
 /// How a run ended. The number of each is the program's status.
 #[derive(Clone, Copy, Debug, PartialEq, Eq)]
 pub enum RunStatus {
@@ -17,13 +20,13 @@ pub enum RunStatus {
     WriteFault,
     /// 5: a call of the store failed before the session or the workers.
     StoreFault,
-    /// 6: the input ended inside a message.
+    /// 6: the input ended inside a message or a line.
     Truncated,
-    /// 7: no memory was found before the session, the workers or the summary.
+    /// 7: no memory was found before the session, the workers or the summary, or for a page.
     Memory,
     /// 8: the door could not be opened at the port, or a call of it failed.
     DoorFault,
-    /// 9: a refusal, or a message that asks for close, ended the session.
+    /// 9: a refusal, or a message that asks for close, ended the session, or a line is longer than one may be.
     StoppedEarly,
     /// 10: more reads were needed than are allowed.
     TooManyReads,
@@ -64,10 +67,12 @@ impl RunStatus {
 ghost use Rattle.std.specs.Prelude.{◌≡◌, ◌≢◌};
 ghost use Rattle.graphjet.specs.Statuses.{status_of_end, status_of_refusal};
 ghost use Rattle.gj_keep.specs.declared.opening.OpenError.TheVariants.{Place};
+ghost use Rattle.graphjet.specs.declared.run_status.RunStatus.TheVariants as statuses;
 
 /// The status of a session by its end.
 pub fn status_of(end: End) -> RunStatus
-    ensures { result ≡ status_of_end end }
+    ensures exact { result ≡ status_of_end end }
+    ensures local { (result ≢ statuses.DoorFault) × (result ≢ statuses.NoPlace) }
 {
     match end {
         End::Finished => RunStatus::Done,
@@ -82,7 +87,8 @@ pub fn status_of(end: End) -> RunStatus
 /// The status of a refused opening of a local index, which asks for no reader's place.
 pub fn status_of_refusal(why: OpenError) -> RunStatus
     requires { why ≢ Place }
-    ensures { result ≡ status_of_refusal why }
+    ensures exact { result ≡ status_of_refusal why }
+    ensures local { (result ≢ statuses.DoorFault) × (result ≢ statuses.NoPlace) }
 {
     match why {
         OpenError::Memory => RunStatus::Memory,

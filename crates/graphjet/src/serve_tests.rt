@@ -2,10 +2,13 @@
 ghost use Rattle.std.specs.Prelude.{◌≡◌, ◌<◌, All, IsTrue, IfOk};
 ghost use Rattle.gj_keep.specs.MemoryHomes.{is_home};
 ghost use Rattle.gj_serve.specs.Fresh.{IsFreshLink};
+ghost use Rattle.gj_serve.specs.MemoryDoors.{handed_by, back_at, nones_of, entered_by};
 
 use crate::serving::{Ended, run_serve};
+use crate::store_tests::{ONE_FAVORITE, STATS, over, stores_of};
+use crate::tests::{POST, POSTED, WALK, WALKED, joined};
 use gj_base::{MemoryLink, MemorySink, MemorySource};
-use gj_keep::{MemoryKeeper, MemoryKeepers};
+use gj_keep::MemoryKeepers;
 use gj_publish::Grants;
 use gj_serve::MemoryDoor;
 use std::alloc::Global;
@@ -13,30 +16,26 @@ use std::sync::Wait;
 use std::test::Fail;
 use std::thread::Threads;
 
-const STATS: &[u8] = b"GET /stats HTTP/1.1\r\n\r\n";
-
-/// A link on which the statistics are asked for.
-fn link_over(alloc: Global) -> Result<MemoryLink, Fail>
+/// A link over the input, of which the read with this number fails, and none with the number 0.
+fn link_over(alloc: Global, input: Vec<u8>, fails: u64) -> Result<MemoryLink, Fail>
     ensures { IfOk result IsFreshLink }
 {
-    let source = MemorySource::new(STATS.to_vec(alloc)?, 4096, Vec::new(alloc));
+    let source = MemorySource::new(input, 4096, vec![in alloc; fails]?);
     let sink = MemorySink::new(alloc, 4096, 4096, Vec::new(alloc))?;
     Ok(MemoryLink::new(source, sink))
 }
 
-/// A door of two such links, whose calls with these numbers fail.
-fn door_of(alloc: Global, fails: Vec<u64>) -> Result<MemoryDoor, Fail>
+/// A door of two links with this input, whose calls with these numbers fail.
+fn door_of(alloc: Global, input: &[u8], fails: Vec<u64>) -> Result<MemoryDoor, Fail>
     ensures { IfOk result (λ d. (handed_by d ≡ 0) × (back_at d ≡ 0) × (nones_of d ≡ 0) × (entered_by d ≡ 0)) }
 {
     let mut links = Vec::with_capacity(alloc, 2)?;
-    let first = link_over(alloc)?;
-    let second = link_over(alloc)?;
+    let first = link_over(alloc, input.to_vec(alloc)?, 0)?;
+    let second = link_over(alloc, input.to_vec(alloc)?, 0)?;
     links.push_reserved(first);
     links.push_reserved(second);
     Ok(MemoryDoor::new(alloc, links, fails)?)
 }
-
-ghost use Rattle.gj_serve.specs.MemoryDoors.{handed_by, back_at, nones_of, entered_by};
 
 /// What a service left.
 #[derive(Drop)]
@@ -46,14 +45,17 @@ struct Left {
     door: MemoryDoor,
 }
 
-/// A service of these arguments over the door.
+/// A service of these arguments over the door and the stores.
 fn served<R: Threads + Wait + Copy + Drop + Send + Sync>(
     rt: R,
     alloc: Global,
     line: &str,
     door: MemoryDoor,
+    stores: &mut MemoryKeepers,
 ) -> Result<Left, Fail>
-    requires { (handed_by door ≡ 0) × (back_at door ≡ 0) × (nones_of door ≡ 0) × (entered_by door ≡ 0) }
+    requires fresh { (handed_by door ≡ 0) × (back_at door ≡ 0) × (nones_of door ≡ 0) × (entered_by door ≡ 0) }
+    requires home { IsTrue (is_home stores.old) }
+    ensures { IsTrue (is_home stores.new) }
 {
     let mut words = Vec::new(alloc);
     for word in line.split(' ') {
@@ -61,8 +63,6 @@ fn served<R: Threads + Wait + Copy + Drop + Send + Sync>(
     }
     let mut out = MemorySink::new(alloc, 4096, 4096, Vec::new(alloc))?;
     let mut err = MemorySink::new(alloc, 4096, 4096, Vec::new(alloc))?;
-    let keeper = MemoryKeeper::of(None, Vec::new(alloc), Vec::new(alloc));
-    let mut stores = MemoryKeepers::new(keeper, Vec::new(alloc));
     let Ended { status, door } = run_serve(
         rt,
         alloc,
@@ -70,10 +70,17 @@ fn served<R: Threads + Wait + Copy + Drop + Send + Sync>(
         door,
         &mut out,
         &mut err,
-        &mut stores,
+        stores,
         &mut Grants::new(),
     );
     Ok(Left { status, out, door })
+}
+
+/// New stores, which fail no call.
+fn new_stores(alloc: Global) -> MemoryKeepers
+    ensures { IsTrue (is_home result) }
+{
+    stores_of(alloc, None, Vec::new(alloc), Vec::new(alloc))
 }
 
 #[test]
@@ -83,8 +90,9 @@ fn both_links_are_served_and_come_back(rt: HostRuntime) -> Result<(), Fail> {
         "serve --workers 2",
         "serve --workers 1 --store s --sessions 2",
     ] {
-        let door = door_of(alloc, Vec::new(alloc))?;
-        let Left { status, out, door } = served(&rt, alloc, line, door)?;
+        let door = door_of(alloc, STATS, Vec::new(alloc))?;
+        let mut stores = new_stores(alloc);
+        let Left { status, out, door } = served(&rt, alloc, line, door, &mut stores)?;
         assert_eq!(rt; status, 0, "{line}");
         assert_eq!(rt;
             out.written(),
@@ -108,20 +116,49 @@ fn both_links_are_served_and_come_back(rt: HostRuntime) -> Result<(), Fail> {
 #[test]
 fn a_fault_of_the_door_is_told(rt: HostRuntime) -> Result<(), Fail> {
     let alloc = rt.alloc();
+    let input = joined(alloc, POST, WALK)?;
     for (fails, written) in [
         (1, b"".as_slice()),
         (2, b"ready 1\nsessions 0 length 0\n".as_slice()),
-        (3, b"ready 1\nsessions 1 length 0\n".as_slice()),
+        (3, b"ready 1\nsessions 1 length 1\n".as_slice()),
     ] {
-        let door = door_of(alloc, vec![in alloc; fails]?)?;
+        let door = door_of(alloc, input.as_slice(), vec![in alloc; fails]?)?;
         let line = "serve --workers 1 --port 1";
+        let mut stores = new_stores(alloc);
         let Left {
             status,
             out,
             door: _,
-        } = served(&rt, alloc, line, door)?;
+        } = served(&rt, alloc, line, door, &mut stores)?;
         assert_eq!(rt; status, 8, "call {fails}");
         assert_eq!(rt; out.written(), written, "call {fails}");
     }
+    Ok(())
+}
+
+#[test]
+fn a_replay_goes_on_where_a_service_ended(rt: HostRuntime) -> Result<(), Fail> {
+    let alloc = rt.alloc();
+    let mut links = Vec::with_capacity(alloc, 1)?;
+    let link = link_over(alloc, joined(alloc, POST, WALK)?, 0)?;
+    links.push_reserved(link);
+    let door = MemoryDoor::new(alloc, links, Vec::new(alloc))?;
+    let mut stores = new_stores(alloc);
+    let line = "serve --workers 1 --store s --capacity 4096 --segments 4";
+    let Left { status, out, door } = served(&rt, alloc, line, door, &mut stores)?;
+    assert_eq!(rt; status, 0);
+    assert_eq!(rt;
+        out.written(),
+        b"ready 8017\nsessions 1 length 1\n".as_slice()
+    );
+    let replies = joined(alloc, POSTED, WALKED)?;
+    for done in door.into_back() {
+        let link = done.into_link();
+        assert_eq!(rt; link.sink().written(), replies.as_slice());
+    }
+    let line = "replay --store s --capacity 4096 --segments 4";
+    let ran = over(alloc, line, STATS.to_vec(alloc)?, &mut stores)?;
+    assert_eq!(rt; ran.status, 0);
+    assert!(rt; ran.out.written().ends_with(ONE_FAVORITE));
     Ok(())
 }

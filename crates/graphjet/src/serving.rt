@@ -5,7 +5,7 @@ ghost use Rattle.gj_keep.specs.declared.opening.OpenError.{OpenError};
 ghost use Rattle.gj_keep.specs.declared.opening.OpenError.TheVariants as why;
 ghost use Rattle.gj_service.specs.Services.{HasRoom, IsPlan, IsUnserved, door_at};
 ghost use Rattle.gj_service.specs.declared.end.ServiceEnd.TheVariants as ends;
-ghost use Rattle.gj_session.specs.Streams.{outgoing};
+ghost use Rattle.gj_base.specs.Streams.{outgoing};
 ghost use Rattle.gj_words.specs.Tasks.{IsService, Serving, service_of, serving_by};
 ghost use Rattle.graphjet.specs.Lines.{line_of};
 ghost use Rattle.graphjet.specs.Replays.{StoresAt, stores_at};

@@ -1,44 +1,85 @@
 //! Replays over kept windows, and a workload.
-ghost use Rattle.std.specs.Prelude.{IsTrue};
+ghost use Rattle.std.specs.Prelude.{◌<◌, IsTrue};
 ghost use Rattle.gj_keep.specs.MemoryHomes.{is_home};
 
 use crate::local::run_local;
-use crate::tests::POST;
+use crate::tests::{POST, WALK, joined};
 use gj_base::{KeptConf, KeptItem, MemorySink, MemorySource};
 use gj_keep::{MemoryKeeper, MemoryKeepers};
 use std::alloc::Global;
 use std::test::Fail;
 
+pub const STATS: &[u8] = b"GET /stats HTTP/1.1\r\n\r\n";
+
+/// The numbers of a window of 4 segments of 4096 interactions, after one favorite.
+pub const ONE_FAVORITE: &[u8] =
+    b"{\"length\":1,\"base\":0,\"capacity\":4096,\"segments\":4,\"kinds\":{\"click\":0,\"favorite\":1,\"retweet\":0,\"reply\":0,\"tweet\":0}}";
+
 /// What a run left.
 #[derive(Drop)]
-struct Ran {
-    status: u8,
-    out: MemorySink,
-    err: MemorySink,
+pub struct Ran {
+    pub status: u8,
+    pub out: MemorySink,
+    pub err: MemorySink,
 }
 
-/// A run over the arguments, which single blanks part, and so many posts.
-fn run(alloc: Global, line: &str, posts: usize, stores: &mut MemoryKeepers) -> Result<Ran, Fail>
-    requires { IsTrue (is_home stores.old) }
+/// A run over the arguments, which single blanks part, and the input, whose sink takes `write` bytes a call and fails the
+/// call with this number, and none with the number 0.
+fn over_sink(
+    alloc: Global,
+    line: &str,
+    input: Vec<u8>,
+    write: usize,
+    fails: u64,
+    stores: &mut MemoryKeepers,
+) -> Result<Ran, Fail>
+    requires some { 0 < write }
+    requires home { IsTrue (is_home stores.old) }
     ensures { IsTrue (is_home stores.new) }
 {
     let mut words = Vec::new(alloc);
     for word in line.split(' ') {
         words.push(String::from_str(alloc, word)?)?;
     }
-    let mut bytes = Vec::new(alloc);
-    for _ in 0..posts {
-        bytes.extend_from_slice(POST)?;
-    }
-    let mut input = MemorySource::new(bytes, 4096, Vec::new(alloc));
-    let mut out = MemorySink::new(alloc, 4096, 4096, Vec::new(alloc))?;
+    let mut input = MemorySource::new(input, 4096, Vec::new(alloc));
+    let mut out = MemorySink::new(alloc, 8192, write, vec![in alloc; fails]?)?;
     let mut err = MemorySink::new(alloc, 4096, 4096, Vec::new(alloc))?;
     let status = run_local(alloc, &words, &mut input, &mut out, &mut err, stores);
     Ok(Ran { status, out, err })
 }
 
+/// The same, where no call of the sink fails.
+pub fn over(
+    alloc: Global,
+    line: &str,
+    input: Vec<u8>,
+    stores: &mut MemoryKeepers,
+) -> Result<Ran, Fail>
+    requires { IsTrue (is_home stores.old) }
+    ensures { IsTrue (is_home stores.new) }
+{
+    over_sink(alloc, line, input, 8192, 0, stores)
+}
+
+/// So many times the bytes.
+fn times(alloc: Global, bytes: &[u8], count: usize) -> Result<Vec<u8>, Fail> {
+    let mut all = Vec::new(alloc);
+    for _ in 0..count {
+        all.extend_from_slice(bytes)?;
+    }
+    Ok(all)
+}
+
+/// The same for so many posts.
+fn run(alloc: Global, line: &str, posts: usize, stores: &mut MemoryKeepers) -> Result<Ran, Fail>
+    requires { IsTrue (is_home stores.old) }
+    ensures { IsTrue (is_home stores.new) }
+{
+    over(alloc, line, times(alloc, POST, posts)?, stores)
+}
+
 /// Stores whose keeper keeps these.
-fn stores_of(
+pub fn stores_of(
     alloc: Global,
     conf: Option<KeptConf>,
     rows: Vec<KeptItem>,
@@ -147,3 +188,64 @@ fn a_load_writes_eight_lines(rt: HostRuntime) -> Result<(), Fail> {
     assert!(rt; ran.err.written().is_empty());
     Ok(())
 }
+
+#[test]
+fn what_was_accepted_before_a_write_fault_is_kept(rt: HostRuntime) -> Result<(), Fail> {
+    let alloc = rt.alloc();
+    let mut stores = stores_of(alloc, None, Vec::new(alloc), Vec::new(alloc));
+    let line = "replay --store s --capacity 4096 --segments 4";
+    let first = over_sink(alloc, line, joined(alloc, POST, WALK)?, 10, 2, &mut stores)?;
+    assert_eq!(rt; first.status, 4);
+    assert_eq!(rt; first.out.written(), b"HTTP/1.1 2".as_slice());
+    assert_eq!(rt; first.err.written(), b"write fault\n".as_slice());
+    let second = over(alloc, line, STATS.to_vec(alloc)?, &mut stores)?;
+    assert!(rt; second.out.written().ends_with(ONE_FAVORITE));
+    Ok(())
+}
+
+/// A post of eight times one favorite.
+fn eight(alloc: Global) -> Result<Vec<u8>, Fail> {
+    let mut bytes = Vec::new(alloc);
+    bytes.extend_from_slice(
+        b"POST /interactions HTTP/1.1\r\nContent-Length: 323\r\n\r\n{\"items\":[",
+    )?;
+    for _ in 0..7 {
+        bytes.extend_from_slice(b"{\"user\":1,\"post\":10,\"kind\":\"favorite\"},")?;
+    }
+    bytes.extend_from_slice(b"{\"user\":1,\"post\":10,\"kind\":\"favorite\"}]}")?;
+    Ok(bytes)
+}
+
+// The replies to the posts that are kept have 116, 117, 118 and 118 bytes, and that for the store's fault has 129.
+#[test]
+fn whichever_call_of_the_store_fails_what_was_accepted_is_kept(
+    rt: HostRuntime,
+) -> Result<(), Fail> {
+    let alloc = rt.alloc();
+    let line = "replay --store s --capacity 16 --segments 1";
+    for call in 1..10 {
+        let mut stores = stores_of(alloc, None, Vec::new(alloc), vec![in alloc; call]?);
+        let input = times(alloc, eight(alloc)?.as_slice(), 5)?;
+        let first = over(alloc, line, input, &mut stores)?;
+        let second = over(alloc, line, STATS.to_vec(alloc)?, &mut stores)?;
+        assert_eq!(rt; second.status, 0, "call {call}");
+        if call < 4 {
+            assert_eq!(rt; first.status, 5, "call {call}");
+            assert!(rt; first.out.written().is_empty(), "call {call}");
+            assert!(rt; second.out.written().ends_with(NONE_KEPT), "call {call}");
+        } else {
+            assert_eq!(rt; first.status, 0, "call {call}");
+            assert_eq!(rt; first.out.written().len(), 598, "call {call}");
+            assert!(rt; second.out.written().ends_with(LAST_SIXTEEN), "call {call}");
+        }
+    }
+    Ok(())
+}
+
+/// The numbers of a window of one segment of 16 interactions, which begins.
+const NONE_KEPT: &[u8] =
+    b"{\"length\":0,\"base\":0,\"capacity\":16,\"segments\":1,\"kinds\":{\"click\":0,\"favorite\":0,\"retweet\":0,\"reply\":0,\"tweet\":0}}";
+
+/// The same after 32 favorites.
+const LAST_SIXTEEN: &[u8] =
+    b"{\"length\":32,\"base\":16,\"capacity\":16,\"segments\":1,\"kinds\":{\"click\":0,\"favorite\":16,\"retweet\":0,\"reply\":0,\"tweet\":0}}";

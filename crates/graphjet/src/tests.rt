@@ -10,35 +10,36 @@ use std::test::Fail;
 pub const POST: &[u8] =
     b"POST /interactions HTTP/1.1\r\nContent-Length: 50\r\n\r\n{\"items\":[{\"user\":1,\"post\":10,\"kind\":\"favorite\"}]}";
 
-const WALK: &[u8] = b"POST /walk HTTP/1.1\r\nContent-Length: 23\r\n\r\n{\"seeds\":[1],\"steps\":6}";
+pub const WALK: &[u8] =
+    b"POST /walk HTTP/1.1\r\nContent-Length: 23\r\n\r\n{\"seeds\":[1],\"steps\":6}";
 
-const POSTED: &[u8] =
+pub const POSTED: &[u8] =
     b"HTTP/1.1 200 OK\r\nContent-Type: application/json\r\nContent-Length: 21\r\nConnection: keep-alive\r\n\r\n{\"from\":0,\"length\":1}";
 
-const WALKED: &[u8] =
+pub const WALKED: &[u8] =
     b"HTTP/1.1 200 OK\r\nContent-Type: application/json\r\nContent-Length: 59\r\nConnection: keep-alive\r\n\r\n{\"length\":1,\"results\":[{\"post\":10,\"visits\":3,\"proof\":[1]}]}";
 
 /// What a run left.
 #[derive(Drop)]
-struct Ran {
-    status: u8,
-    out: MemorySink,
-    err: MemorySink,
+pub struct Ran {
+    pub status: u8,
+    pub out: MemorySink,
+    pub err: MemorySink,
 }
 
 /// The bytes, one after the other.
-fn joined(alloc: Global, first: &[u8], second: &[u8]) -> Result<Vec<u8>, Fail> {
+pub fn joined(alloc: Global, first: &[u8], second: &[u8]) -> Result<Vec<u8>, Fail> {
     let mut bytes = Vec::new(alloc);
     bytes.extend_from_slice(first)?;
     bytes.extend_from_slice(second)?;
     Ok(bytes)
 }
 
-/// A run over the word, whose source gives `read` bytes a call and whose sink takes `write`; the calls with these numbers
-/// fail, and none with the number 0.
-fn run_with(
+/// A run over the arguments, which single blanks part, whose source gives `read` bytes a call and whose sink takes `write`;
+/// the calls with these numbers fail, and none with the number 0.
+pub fn run_with(
     alloc: Global,
-    word: &str,
+    line: &str,
     input: Vec<u8>,
     read: usize,
     write: usize,
@@ -48,7 +49,9 @@ fn run_with(
     requires write { 0 < write }
 {
     let mut words = Vec::new(alloc);
-    words.push(String::from_str(alloc, word)?)?;
+    for word in line.split(' ') {
+        words.push(String::from_str(alloc, word)?)?;
+    }
     let [read_fails, write_fails, err_fails] = fails;
     let mut input = MemorySource::new(input, read, vec![in alloc; read_fails]?);
     let mut out = MemorySink::new(alloc, 4096, write, vec![in alloc; write_fails]?)?;
@@ -153,7 +156,7 @@ fn other_words_are_no_command(rt: HostRuntime) -> Result<(), Fail> {
     assert!(rt; ran.out.written().is_empty());
     assert_eq!(rt;
         ran.err.written(),
-        b"usage: graphjet replay|serve|load [options]\n".as_slice()
+        b"usage: graphjet replay|serve|load|follow [options]\n".as_slice()
     );
     Ok(())
 }

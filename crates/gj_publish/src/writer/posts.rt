@@ -54,7 +54,7 @@ impl<J: Opening, C: Copies<Operation = Batch<J>>, K: Keeper + Drop> Writer<J, C,
         // At every answer.
         ensures front { Begins seat.old.front seat.new.front }
         ensures numbers { seat.new.numbers ≡ after_post result seat.old.numbers }
-        ensures others { (seat.new.number ≡ seat.old.number) × (self.new.start ≡ self.old.start) }
+        ensures others { (seat.new.number ≡ seat.old.number) × (self.new.noted ≡ self.old.noted) × (self.new.start ≡ self.old.start) }
         ensures published { Begins self.old.published self.new.published }
         ensures later { self.old.faults ≤ self.new.faults }
     {
@@ -64,23 +64,7 @@ impl<J: Opening, C: Copies<Operation = Batch<J>>, K: Keeper + Drop> Writer<J, C,
             seat.refuse_full();
             return Err(PostError::Full { length: from });
         }
-        match seat.look_behind(&self.shown, |_: &W| ()) {
-            Err(why) => return Err(PostError::NoLook(why)),
-            Ok(()) => {}
-        }
-        let seen = seat.seen();
-        let shown = self.shown.length();
-        let posted = seat.posted();
-        let counted = self.counted(seat.number());
-        if seen > shown || posted != counted {
-            seat.refuse_apart();
-            return Err(PostError::Apart {
-                seen,
-                shown,
-                posted,
-                counted,
-            });
-        }
+        self.meet(seat)?;
         if !self.show_owed() {
             return Err(PostError::Memory);
         }
@@ -118,7 +102,7 @@ impl<J: Opening, C: Copies<Operation = Batch<J>>, K: Keeper + Drop> Writer<J, C,
         requires few { length items ≤ 4096 }
         ensures ok { OnOk result (self.new.accepted ≡ extend self.old.accepted (entries_by seat.old.number items)) }
         ensures posted { OnOk result (seat.new ≡ record { number = seat.old.number; front = seat.old.front; posted = seat.old.posted + length items; numbers = seat.old.numbers }) }
-        ensures same { (self.new.published ≡ self.old.published) × (self.new.start ≡ self.old.start) }
+        ensures same { (self.new.published ≡ self.old.published) × (self.new.noted ≡ self.old.noted) × (self.new.start ≡ self.old.start) }
         ensures err { OnErr result ((self.new.accepted ≡ self.old.accepted) × (seat.new ≡ seat.old)) }
         ensures cause { IsErrOf result StoreFault → Rose self.old.faults self.new.faults }
         ensures steady { IsTrue self.old.steady → (IsErrOf result StoreFault → ⊥) × IsTrue self.new.steady }

@@ -1,9 +1,12 @@
 use Rattle.std.proofs.Common.{None}
-use Rattle.gj_keep.proofs.OpeningLemmas.{plain_place, plain_conf}
+use Rattle.gj_keep.proofs.OpeningLemmas.{plain_place, plain_conf, plain_row}
 use Rattle.gj_keep.proofs.opening.read_rows.Goals as goal
 
 pub returns-in-Err-rows-clause-differs : goal.returns-in-Err-rows-clause-differs
 returns-in-Err-rows-clause-differs g c old now e = absurd (plain_conf _ (c.refusal.ensures.may None) old now e)
+
+pub returns-in-Err-rows-clause-bad : goal.returns-in-Err-rows-clause-bad
+returns-in-Err-rows-clause-bad g c row e = absurd (plain_row _ (c.refusal.ensures.may None) row e)
 
 pub returns-in-Err-rows-clause-refused : goal.returns-in-Err-rows-clause-refused
 returns-in-Err-rows-clause-refused g c tells = c.refusal.ensures.may _

@@ -42,3 +42,8 @@ returns-in-Err-clause-full g c = λ n e.
     let end = end_is (g.I.Index.viewed index) c.args.number c.loop-done.done (g.met.I.Index.is_window index).configuration.segments_low stands in
     let over = c.in-Err.ensures.full n e in
     omega (arith, end, over)
+
+pub returns-in-Err-clause-err : goal.returns-in-Err-clause-err
+returns-in-Err-clause-err g c =
+    let inv = c.loop-done.invariant in
+    (c.loop-done.done, omega arith, c.in-Err.ensures.err (history_of (items_from c.args.number c.loop-done.done)) inv.keeps)

@@ -1,11 +1,12 @@
 use Rattle.std.proofs.Common.{ℕ, ◌≡◌, ◌++◌, List, [], ◌∷◌, Result, refl, length-append, length, Some, slice_get, sym, subst, ap, arith}
 use Rattle.std.proofs.lemmas.Option.{slice_get_read}
-use Rattle.gj_base.specs.History.{end_of, length_of}
-use Rattle.gj_base.proofs.Windows.{stands_end}
+use Rattle.gj_base.specs.declared.item.Item.{Item}
+use Rattle.gj_base.specs.History.{end_of, entries_by, length_of}
+use Rattle.gj_base.proofs.Windows.{items_back, stands_end}
 use Rattle.gj_once.specs.declared.verdict.LastBatch.{LastBatch}
 use Rattle.gj_once.specs.Judging.{nothing_noted}
-use Rattle.gj_once.specs.PostLists.{AreAnswers, posts_of}
-use Rattle.gj_once.proofs.OnceLemmas.{once_only}
+use Rattle.gj_once.specs.PostLists.{AreAnswers, entered, posts_of}
+use Rattle.gj_once.proofs.OnceLemmas.{are_so, once_only}
 use Rattle.gj_once.specs.declared.noted_index.Noted.{Noted}
 use Rattle.gj_once.specs.declared.noted_index.OnceError.{OnceError}
 use Rattle.gj_once.proofs.PostingLemmas.{Posted, posted_none, posted_more}
@@ -39,8 +40,10 @@ loop-call-preserved g c = record {
 
 pub returns-clause-once : goal.returns-clause-once
 returns-clause-once g c h seat nothing kept =
-    let P : List LastBatch → ℕ → Type 0 = λ lasts before. AreAnswers lasts before (posts_of c.args.calls.now c.loop-call.answers.items) in
+    let P : List LastBatch → ℕ → Type 0 = λ lasts before. AreAnswers lasts before c.args.calls.now c.loop-call.answers.items in
     let ends : end_of (g.N.Index.viewed c.args.index.now) ≡ length_of h =
     stands_end (g.N.Index.viewed c.args.index.now) h (g.met.N.Index.is_window c.args.index.now).configuration.segments_low (g.met.N.Index.stands c.args.index.now h kept) in
-    once_only (posts_of c.args.calls.now c.loop-call.answers.items) h seat
-    (subst (λ (n : ℕ). P nothing_noted n) ends (subst (λ (l : List LastBatch). P l (end_of (g.N.Index.viewed c.args.index.now))) nothing c.loop-call.invariant.posted.exact))
+    let all : List Item = entered (posts_of c.args.calls.now c.loop-call.answers.items) in
+    let are : P nothing_noted (length_of h) =
+    subst (λ (n : ℕ). P nothing_noted n) ends (subst (λ (l : List LastBatch). P l (end_of (g.N.Index.viewed c.args.index.now))) nothing c.loop-call.invariant.posted.exact) in
+    once_only (posts_of c.args.calls.now c.loop-call.answers.items) h (entries_by seat all) (items_back seat all) (are_so _ _ c.args.calls.now c.loop-call.answers.items are)

@@ -21,8 +21,9 @@ returns g c =
       number = x.others.0;
       low = rw c.length-length.ensures.exact at c.length-length.ensures.in_range;
     } in
-    rw (c.outcome_to.ensures, c.compact_filled.ensures) (record {
+    rw (c.outcome_to.ensures, c.compact_posted.ensures) (record {
       answers = post_answers _ _ _ _ _ _ _ _ c.args.items c.post-posted.result says;
       history = post_enters _ _ _ _ _ _ _ c.args.items c.post-posted.result says;
+      noted = x.others.1;
       later = x.later;
     })

@@ -7,7 +7,7 @@ use Rattle.gj_session.proofs.replaying.replay_session.Goals as goal
 pub returns : goal.returns
 returns g c =
     let run = c.run_session.ensures.replayed in
-    let ran = index_ran g.row.I.Denot (λ x. index_at (g.I.Index.viewed x) (g.I.Index.keeps x) (g.I.Index.faults x) (g.I.Index.steady x)) c.args.index.now c.run_session.new.answerer in
+    let ran = index_ran g.row.I.Denot (λ x. index_at (g.I.Index.viewed x) (g.I.Index.keeps x) (g.I.Index.faults x) (g.I.Index.steady x) (g.I.NotedIndex.noted x)) c.args.index.now c.run_session.new.answerer in
     let in_by = come _ _ _ _ _ _ _ run in
     let out_by = gone _ _ _ _ _ run.ended.ends in
     record {

@@ -1,6 +1,6 @@
 use Rattle.std.proofs.Common.{◌∙◌, arith, refl}
 use Rattle.std.proofs.lemmas.List.{length-drop}
-use Rattle.gj_session.proofs.StreamLemmas.{wrote_none, wrote_piece}
+use Rattle.gj_base.proofs.StreamLemmas.{wrote_none, wrote_piece}
 use Rattle.gj_session.proofs.sending.send_over.Goals as goal
 
 pub loop-at-init : goal.loop-at-init

@@ -1,5 +1,5 @@
 use Rattle.std.proofs.Common.{◌≡◌, ◌≤◌, ◌-◌, length, take}
-use Rattle.gj_session.specs.Streams.{Wrote}
+use Rattle.gj_base.specs.Streams.{Wrote}
 use Rattle.gj_session.proofs.sending.send_over.Given as goal
 
 abbrev pub invariant-loop-at : goal.invariant-loop-at

@@ -18,7 +18,7 @@ loop-place-preserved g c =
     let i = c.loop-place.place - shown.first in
     let next : c.loop-place.place + 1 - shown.first ≡ i + 1 = omega (arith, c.loop-place.invariant.from_base) in
     let item = c.item.result in
-    let known = c.in_ok-set.ensures item.user in
+    let known = c.in_ok-names.ensures item.user in
     record {
       from_base = omega (arith, c.loop-place.invariant.from_base);
       users = rw (next, edges_more (λ x. x.user) shown.items c.args.seeds.now c.args.mask i item c.item.ensures, ← c.loop-place.invariant.users, ← known)

@@ -16,6 +16,8 @@ returns-clause-does g c = λ a. let over = c.replay_over-status.ensures in recor
     by_input = h.by_input;
   });
   judged = (over.bare refl, λ e. (let rose = over.store_cause e in absurd (omega (arith, rose))));
+  differs = over.differs;
+  bad = over.bad;
   asked = over.asked;
   kept = λ no yes. inl refl;
 }

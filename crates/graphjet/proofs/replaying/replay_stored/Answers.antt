@@ -3,8 +3,8 @@ use Rattle.gj_base.specs.Kept.{Kept}
 use Rattle.graphjet.proofs.ReplayLemmas.{replays_home}
 use Rattle.graphjet.proofs.replaying.replay_stored.Goals as goal
 
-pub returns-in-Ok-clause-does : goal.returns-in-Ok-clause-does
-returns-in-Ok-clause-does g c =
+pub returns-clause-does : goal.returns-clause-does
+returns-clause-does g c =
     let old = g.P.Keepers.stored c.args.stores.now in
     let mid = g.P.Keepers.stored c.keeper_at.new.self in
     let new = g.P.Keepers.stored c.take_back.new.self in
@@ -22,4 +22,4 @@ returns-in-Ok-clause-does g c =
     let known : f ≤ own + k = omega (arith, out.known, out.count) in
     let count : f' ≡ max f (min (own + k') (2 ^ 64 - 1)) = omega (arith, out.count, c.take_back.ensures.count) in
     replays_home c.args.conf c.args.path.now old new (g.P.Kept.Keeper.kept c.in-Ok.keeper) kept' f f' k k' own (g.P.Keepers.steady c.args.stores.now) (g.P.Keepers.steady c.take_back.new.self) (g.P.Kept.Keeper.steady c.in-Ok.keeper) _ _ _ _ c.replay_over-keeper.result.status
-    out.same told home known count (λ sure. (out.steady sure).2) over.session over.left over.judged over.asked
+    out.same told home known count (λ sure. (out.steady sure).2) over.session over.left over.judged over.differs over.bad over.asked

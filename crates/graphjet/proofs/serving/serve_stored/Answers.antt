@@ -16,4 +16,4 @@ returns-in-Ok-clause-does g c =
     let home : IsTrue old.tells → new ≡ kept' = λ yes. c.take_back.ensures.same (ap (λ (k : Kept). k.tells) same ∙ yes) in
     serves_home c.args.conf c.args.path.now c.args.plan old new (g.P.Kept.Keeper.kept c.in-Ok.keeper) kept' (g.P.Keepers.faults c.args.stores.now) (g.P.Keepers.faults c.take_back.new.self)
     (g.P.Keepers.steady c.args.stores.now) (g.P.Keepers.steady c.take_back.new.self) _ _ _ _ c.serve_over-end.result.end
-    out.same told home (g.P.Kept.Keeper.untold c.in-Ok.keeper) over.service (λ no. (over.left no).0) over.judged
+    out.same told home (g.P.Kept.Keeper.untold c.in-Ok.keeper) over.service (λ no. (over.left no).0) over.judged over.differs over.bad

@@ -1,17 +1,28 @@
-use Rattle.std.proofs.Common.{◌<◌, ◌≤◌, length, arith, sym, ◌∙◌}
-use Rattle.gj_compact.proofs.BlockLemmas.{part_yes, part_no}
+use Rattle.std.proofs.Common.{◌≡◌, ◌-◌, ℕ, List, length, take, drop, count_by, ap, sym, ◌∙◌, arith}
+use Rattle.gj_base.specs.declared.kind.Kind.{Kind}
+use Rattle.gj_base.specs.Kinds.{has_kind}
+use Rattle.gj_compact.specs.declared.edge.End.{End}
+use Rattle.gj_compact.proofs.CellLemmas.{length-joined}
+use Rattle.gj_compact.proofs.SpanLemmas.{AreColumns, count_ever}
 use Rattle.gj_compact.proofs.cells.Cells.scan_count.Goals as goal
-use Rattle.gj_compact.proofs.cells.Cells.scan_count.Goals.{then-lets, else-lets}
 
-pub loop-i-preserved : goal.loop-i-preserved
-loop-i-preserved c =
-    let order : c.args.from ≤ c.loop-i.i = c.loop-i.auto.i in
-    let below : c.loop-i.i < length c.args.self.now = omega (arith, c.loop-i-test.true, c.requires.inside) in
-    elim c.if-lets.branch [
-      | then-lets w ↦
-          (let step = part_yes c.args.mask c.args.self.now c.args.from c.loop-i.i c.get-end.result order below c.get-end.ensures (sym c.lets.ensures ∙ w.if-lets.true) in
-          omega (arith, w.count-is, c.loop-i.invariant, step))
-      | else-lets w ↦
-          (let step = part_no c.args.mask c.args.self.now c.args.from c.loop-i.i c.get-end.result order below c.get-end.ensures (sym c.lets.ensures ∙ w.if-lets.false) in
-          omega (arith, w.count-is, c.loop-i.invariant, step))
-    ]
+pub count_between-requires-clause-inside : goal.count_between-requires-clause-inside
+count_between-requires-clause-inside c =
+    let vs : List ℕ = c.self.inside.vertices.items in
+    let ks : List Kind = c.self.inside.kinds.items in
+    let ats : List ℕ = c.self.inside.moments.items in
+    let cells : List End = c.args.self.now in
+    let long : length ks ≡ length cells = c.self.invariant.0 ∙ (sym (length-joined vs ks ats c.self.invariant.0 c.self.invariant.1) ∙ ap length c.self.view_is) in
+    omega (arith, c.requires.inside, long, ap length c.deref.ensures.value)
+
+pub returns-then-not_before-eq0-clause-exact : goal.returns-then-not_before-eq0-clause-exact
+returns-then-not_before-eq0-clause-exact c =
+    let vs : List ℕ = c.self.inside.vertices.items in
+    let ks : List Kind = c.self.inside.kinds.items in
+    let ats : List ℕ = c.self.inside.moments.items in
+    let cells : List End = c.args.self.now in
+    let ever : c.args.mask.not_before ≡ 0 = sym c.not_before.ensures.exact ∙ c.if-not_before-eq0.true in
+    let columns : AreColumns vs ks ats cells = record { view = c.self.view_is; kinds = c.self.invariant.0; moments = c.self.invariant.1 } in
+    c.count_between.ensures.exact
+    ∙ (ap (λ (l : List Kind). count_by (has_kind c.args.mask) (take (c.args.to - c.args.from) (drop c.args.from l))) c.deref.ensures.value
+    ∙ sym (count_ever c.args.mask vs ks ats cells c.args.from c.args.to columns ever))

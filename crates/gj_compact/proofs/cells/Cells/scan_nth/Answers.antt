@@ -1,11 +1,14 @@
-use Rattle.std.proofs.Common.{◌≡◌, ◌<◌, ◌+◌, ◌-◌, [], length, filter, take, drop, refl, ap, arith, sym, ◌∙◌}
+use Rattle.std.proofs.Common.{◌≡◌, ◌<◌, ◌+◌, ◌-◌, [], length, filter, take, drop, get_or, slice_get, Some, refl, ap, arith, sym, ◌∙◌}
+use Rattle.std.proofs.lemmas.Option.{slice_get-get_or}
+use Rattle.gj_compact.specs.declared.edge.End.{End}
+use Rattle.gj_compact.specs.Cells.{no_end}
 use Rattle.std.proofs.lemmas.List.{drop_all, length-drop}
 use Rattle.std.proofs.lemmas.List.Sums.{length-filter}
 use Rattle.gj_base.proofs.EndsLemmas.{first_of_drop, drop_past}
 use Rattle.gj_compact.specs.Blocks.{lets_through}
 use Rattle.gj_compact.proofs.BlockLemmas.{part_from, part_past, filter_yes, filter_no}
 use Rattle.gj_compact.proofs.cells.Cells.scan_nth.Goals as goal
-use Rattle.gj_compact.proofs.cells.Cells.scan_nth.Goals.{then-lets+else-left-eq0, else-lets}
+use Rattle.gj_compact.proofs.cells.Cells.scan_nth.Goals.{then-lets_at+else-left-eq0, else-lets_at}
 
 pub loop-k-init : goal.loop-k-init
 loop-k-init c =
@@ -14,23 +17,27 @@ loop-k-init c =
 
 pub returns-then-left-eq0 : goal.returns-then-left-eq0
 returns-then-left-eq0 c =
+    let lets : c.lets_at.result ≡ lets_through c.args.mask c.get.result = rw (c.get.ensures) at c.lets_at.ensures in
     let part = take (c.args.to - c.args.from) (drop c.args.from c.args.self.now) in
-    let here = part_from c.args.self.now c.args.from c.args.to c.loop-k.k c.get-end.result (omega (arith, c.loop-k.auto.k)) c.loop-k-test.true c.requires.inside c.get-end.ensures in
-    let step = filter_yes c.args.mask c.get-end.result (drop (c.loop-k.k - c.args.from) part) (drop (c.loop-k.k + 1 - c.args.from) part) here (sym c.lets.ensures ∙ c.if-lets.true) in
-    first_of_drop (filter (lets_through c.args.mask) part) c.args.i c.get-end.result (filter (lets_through c.args.mask) (drop (c.loop-k.k + 1 - c.args.from) part))
+    let here = part_from c.args.self.now c.args.from c.args.to c.loop-k.k c.get.result (omega (arith, c.loop-k.auto.k)) c.loop-k-test.true c.requires.inside c.get.ensures in
+    let step = filter_yes c.args.mask c.get.result (drop (c.loop-k.k - c.args.from) part) (drop (c.loop-k.k + 1 - c.args.from) part) here (sym lets ∙ c.if-lets_at.true) in
+    first_of_drop (filter (lets_through c.args.mask) part) c.args.i c.get.result (filter (lets_through c.args.mask) (drop (c.loop-k.k + 1 - c.args.from) part))
     (c.loop-k.invariant ∙ rw c.if-left-eq0.true step)
 
 pub loop-k-preserved : goal.loop-k-preserved
 loop-k-preserved c =
+    let end : End = get_or c.args.self.now c.loop-k.k no_end in
+    let is : slice_get c.args.self.now c.loop-k.k ≡ Some end = slice_get-get_or c.args.self.now c.loop-k.k no_end (omega (arith, c.loop-k-test.true, c.requires.inside)) in
+    let lets : c.lets_at.result ≡ lets_through c.args.mask end = rw is at c.lets_at.ensures in
     let part = take (c.args.to - c.args.from) (drop c.args.from c.args.self.now) in
-    let here = part_from c.args.self.now c.args.from c.args.to c.loop-k.k c.get-end.result (omega (arith, c.loop-k.auto.k)) c.loop-k-test.true c.requires.inside c.get-end.ensures in
-    elim c.if-lets.branch [
-      | then-lets+else-left-eq0 w ↦
-          (let step = filter_yes c.args.mask c.get-end.result (drop (c.loop-k.k - c.args.from) part) (drop (c.loop-k.k + 1 - c.args.from) part) here (sym c.lets.ensures ∙ w.if-lets.true) in
+    let here = part_from c.args.self.now c.args.from c.args.to c.loop-k.k end (omega (arith, c.loop-k.auto.k)) c.loop-k-test.true c.requires.inside is in
+    elim c.if-lets_at.branch [
+      | then-lets_at+else-left-eq0 w ↦
+          (let step = filter_yes c.args.mask end (drop (c.loop-k.k - c.args.from) part) (drop (c.loop-k.k + 1 - c.args.from) part) here (sym lets ∙ w.if-lets_at.true) in
           let above : 0 < c.loop-k.left = omega arith in
           c.loop-k.invariant ∙ rw (step, w.left-is) (drop_past c.loop-k.left _ _ above))
-      | else-lets w ↦
-          (let step = filter_no c.args.mask c.get-end.result (drop (c.loop-k.k - c.args.from) part) (drop (c.loop-k.k + 1 - c.args.from) part) here (sym c.lets.ensures ∙ w.if-lets.false) in
+      | else-lets_at w ↦
+          (let step = filter_no c.args.mask end (drop (c.loop-k.k - c.args.from) part) (drop (c.loop-k.k + 1 - c.args.from) part) here (sym lets ∙ w.if-lets_at.false) in
           c.loop-k.invariant ∙ rw (step, w.left-is) refl)
     ]
 

@@ -3,9 +3,9 @@ use Rattle.gj_base.specs.declared.item.Item.{Item}
 use Rattle.gj_base.specs.declared.history.History.{History}
 use Rattle.gj_base.specs.History.{entries_by, extend}
 use Rattle.gj_keep.specs.Books.{BookKeeps}
-use Rattle.gj_publish.specs.Writers.{IsOwed, IsGrown, IsCounted}
+use Rattle.gj_publish.specs.Writers.{AreWithin, IsOwed, IsGrown, IsCounted}
 use Rattle.gj_publish.proofs.Counting.{counted_more}
-use Rattle.gj_publish.proofs.Growing.{grown_more}
+use Rattle.gj_publish.proofs.Growing.{grown_more, within_more}
 use Rattle.gj_publish.proofs.writer.Writer.take_in.Goals as goal
 
 pub invariant_of-self-2 : goal.invariant_of-self-2
@@ -36,4 +36,5 @@ invariant_of-self-2 g c =
     ap (λ n. slice_set s.counted (k - 1) (slice_index_or s.counted (k - 1) 0 + n)) (sym c.len-count.ensures) ∙ sym c.add.ensures in
     let entered : extend h (entries_by (k - 1 + 1) xs) ≡ now = ap (λ n. extend h (entries_by n xs)) one ∙ sym added in
     let counted : IsCounted g.J.Opening.places c.add.new.self now = subst (λ (z : List ℕ × History). IsCounted g.J.Opening.places z.0 z.1) (λ i. (there i, entered i)) raw in
-    (is.0, is.1, is.2, owed, grown, counted)
+    let within : AreWithin s.once now = within_more s.once h now k xs added is.6 in
+    (is.0, is.1, is.2, owed, grown, counted, within)

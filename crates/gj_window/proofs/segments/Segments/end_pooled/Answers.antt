@@ -8,7 +8,7 @@ pub end_in-requires-else-i-before : goal.end_in-requires-else-i-before
 end_in-requires-else-i-before c =
     let s = c.self.inside in
     let P : ℕ → Type 0 = λ n. c.args.i < n in
-    parts_rest s.older.items s.newest.items c.args.side c.args.id c.args.mask c.args.i _ c.count_in-before.ensures.exact c.if-i-before.false
+    parts_rest s.older.items s.newest.items c.args.side c.args.id c.args.mask c.args.i _ c.count_in_pool-before.ensures.exact c.if-i-before.false
     (subst P (sym (ap (λ (u : Segmented). length (ends (u.older ++ u.newest) c.args.side c.args.id c.args.mask)) c.self.view_is)) c.requires)
 
 pub returns-then-i-before : goal.returns-then-i-before
@@ -21,4 +21,4 @@ pub returns-else-i-before : goal.returns-else-i-before
 returns-else-i-before c =
     let s = c.self.inside in
     sym (ap (λ (u : Segmented). slice_get (ends (u.older ++ u.newest) c.args.side c.args.id c.args.mask) c.args.i) c.self.view_is)
-    ∙ parts_right s.older.items s.newest.items c.args.side c.args.id c.args.mask c.args.i _ _ c.count_in-before.ensures.exact c.if-i-before.false c.end_in-else-i-before.ensures
+    ∙ parts_right s.older.items s.newest.items c.args.side c.args.id c.args.mask c.args.i _ _ c.count_in_pool-before.ensures.exact c.if-i-before.false c.end_in-else-i-before.ensures

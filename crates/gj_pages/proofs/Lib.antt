@@ -1,0 +1,5 @@
+pub mod AnswerLemmas
+pub mod EndLemmas
+pub mod GoingLemmas
+pub mod LineLemmas
+pub mod RunLemmas

@@ -1,0 +1,4 @@
+pub mod Answers
+pub mod Following
+pub mod Lines
+pub mod Loop

@@ -1,5 +1,0 @@
-use Rattle.gj_request.proofs.TakenLemmas.{GoesOn}
-use Rattle.gj_request.proofs.plain.read_item.Given as goal
-
-abbrev pub invariant-loop : goal.invariant-loop
-invariant-loop l = GoesOn l.fn.reader l.reader l.parts

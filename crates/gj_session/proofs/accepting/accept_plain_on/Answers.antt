@@ -1,0 +1,21 @@
+use Rattle.gj_session.proofs.BatchLemmas.{IndexPosts, posts_answer}
+use Rattle.gj_session.proofs.accepting.accept_plain_on.Goals as goal
+
+pub returns : goal.returns
+returns g c =
+    let x = rw c.as_slice.ensures at c.post_plain.ensures in
+    rw c.outcome_to.ensures
+    (posts_answer _ _ c.args.items.now c.post_plain.result (record {
+      is = g.met.I.Index.is_window c.args.index.now;
+      ok = x.ok;
+      receipt = x.receipt;
+      in_range = x.in_range;
+      full = x.full;
+      count = x.count;
+      steady = x.steady;
+      err = x.err;
+      shows = x.shows;
+      stays = x.stays;
+      conf = x.conf;
+      noted = x.noted;
+    }))
