@@ -9,6 +9,7 @@ from draws import pick, resets, words
 
 FIRST_UNITS = 2**20
 MOST_RECENT = 20
+LONGEST_PAGE = 1000
 
 
 class History:
@@ -213,3 +214,28 @@ def answer_stats(history):
         "segments": history.segments,
         "kinds": {kind: counts[kind] for kind in KINDS},
     }
+
+
+def answer_log(history, start):
+    """The interactions from a place on, if the window has it."""
+    if start < history.base():
+        return 409, {"error": "gone", "length": history.length(), "base": history.base()}
+    if start > history.length():
+        return 409, {"error": "ahead", "length": history.length()}
+    items = history.items[start : start + LONGEST_PAGE]
+    return 200, {"length": history.length(), "from": start, "items": [item._asdict() for item in items]}
+
+
+def post_batch(history, producers, ask):
+    """Takes a batch, a numbered one at most once. `producers` has the last number of each and its reply."""
+    last, reply = producers.get(ask.producer, (0, None))
+    if ask.producer and ask.number == last:
+        return 200, {**reply, "repeated": True}
+    if ask.producer and ask.number != last + 1:
+        return 409, {"error": "old" if ask.number < last else "skipped", "last": last}
+    before = history.length()
+    history.items += ask.items
+    reply = {"from": before, "length": history.length()}
+    if ask.producer:
+        producers[ask.producer] = (ask.number, reply)
+    return 200, reply

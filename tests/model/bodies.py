@@ -126,7 +126,11 @@ SINCE = ("since", number(0, 2**48), 0)
 NOT_BEFORE = ("not_before", moment, 0)
 
 FIELDS = {
-    "interactions": [("items", items, NEEDED)],
+    "interactions": [
+        ("items", items, NEEDED),
+        ("producer", number(0, 1024), 0),
+        ("number", number(0, 2**48), 0),
+    ],
     "walk": [
         SEEDS,
         STEPS,
@@ -184,14 +188,25 @@ def read_body(route, body):
         tree = tree_of(body)
     except NoReading:
         raise Refusal("json", None) from None
-    return SimpleNamespace(**read_fields(tree, FIELDS[route], "body"))
+    ask = SimpleNamespace(**read_fields(tree, FIELDS[route], "body"))
+    if route == "interactions" and (ask.producer == 0) != (ask.number == 0):
+        raise Refusal("range", "number")
+    return ask
+
+
+def read_digits(name, part, most):
+    """The number up to the most that is the last part of a path."""
+    if not re.fullmatch("[0-9]+", part):
+        raise Refusal("field", name)
+    digits = part.lstrip("0") or "0"
+    if len(digits) > 19 or int(digits) > most:
+        raise Refusal("range", name)
+    return int(digits)
 
 
 def read_id(part):
-    """The identifier that is the last part of a path."""
-    if not re.fullmatch("[0-9]+", part):
-        raise Refusal("field", "id")
-    digits = part.lstrip("0") or "0"
-    if len(digits) > 19 or int(digits) > MAX_ID:
-        raise Refusal("range", "id")
-    return int(digits)
+    return read_digits("id", part, MAX_ID)
+
+
+def read_from(part):
+    return read_digits("from", part, 2**48)

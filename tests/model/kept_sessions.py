@@ -7,15 +7,14 @@ The program's output, its status and its line on standard error must be the mode
 rows of the file, read by Python's own sqlite3, must be the end of the model's history from a place that no window needs.
 """
 
-import argparse
 import random
 import sqlite3
 import subprocess
 import sys
 import tempfile
-from concurrent.futures import ThreadPoolExecutor
 from pathlib import Path
 
+from agreement import compare
 from bodies import KINDS
 from model import OPTIONS, ROUTES, STORE, run
 from streams import a_session
@@ -80,24 +79,5 @@ def differing_rows(store, history):
     return None if rows == kept else f"the file has other rows from {first} on"
 
 
-def main():
-    parser = argparse.ArgumentParser(description="random sessions over kept windows")
-    option = parser.add_argument
-    option("--program", required=True)
-    option("--count", type=int, default=2000)
-    option("--seed", type=int, default=1, help="the number of the first session")
-    option("--jobs", type=int, default=2, help="programs that run at a time")
-    settings = parser.parse_args()
-    program = Path(settings.program).resolve()
-    sessions = [KeptSession(number) for number in range(settings.seed, settings.seed + settings.count)]
-    with ThreadPoolExecutor(settings.jobs) as pool:
-        for session, what in zip(sessions, pool.map(lambda one: one.difference(program), sessions)):
-            if what:
-                print(f"session {session.number} differs: {what}")
-                return 1
-    print(f"{settings.count} sessions over kept windows agree")
-    return 0
-
-
 if __name__ == "__main__":
-    sys.exit(main())
+    sys.exit(compare("random sessions over kept windows", "kept session", 2000, KeptSession))

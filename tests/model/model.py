@@ -12,15 +12,15 @@ It follows the rules of the server as they are said in words, and shares no code
 import json
 import re
 
-from answers import History, answer_query, answer_stats, answer_vertex
-from bodies import Refusal, read_body, read_id
+from answers import History, answer_log, answer_query, answer_stats, answer_vertex, post_batch
+from bodies import Refusal, read_body, read_from, read_id
 from heads import NeedMore, Refused, is_between_messages, take_message
 
 FINISHED, USAGE, TRUNCATED, STOPPED, CONF_DIFFERS = 0, 2, 6, 9, 11
 
 LINES_ON_ERR = {
     FINISHED: b"",
-    USAGE: b"usage: graphjet replay|serve|load [options]\n",
+    USAGE: b"usage: graphjet replay|serve|load|follow [options]\n",
     TRUNCATED: b"truncated input\n",
     STOPPED: b"stopped early\n",
 }
@@ -38,7 +38,7 @@ REASONS = {
 
 STATUS_OF_REFUSED = {"head": 400, "head_long": 431, "coded": 501, "length": 400, "body_long": 413}
 
-# The method of each route. A path is a route by itself, but for the two that end in an identifier.
+# The method of each route. A path is a route by itself, but for those that end in a number.
 ROUTES = {
     "interactions": "POST",
     "walk": "POST",
@@ -48,8 +48,9 @@ ROUTES = {
     "users": "GET",
     "posts": "GET",
     "stats": "GET",
+    "log": "GET",
 }
-WITH_ID = ("users", "posts")
+WITH_ID = ("users", "posts", "log")
 FIRST_ROUTES = {name: ROUTES[name] for name in ("interactions", "walk", "users", "posts", "stats")}
 
 # The least and the largest value of each option of the word `replay` that is a number.
@@ -69,7 +70,7 @@ def route_of(path, routes):
     return None
 
 
-def reply_to(history, message, routes):
+def reply_to(history, producers, message, routes):
     """The status and the tree of a message's reply, and the method that the route allows if it
     isn't the message's. A good batch joins the history."""
     found = route_of(message.path, routes)
@@ -79,24 +80,24 @@ def reply_to(history, message, routes):
     if message.method != routes[name]:
         return 405, {"error": "method"}, routes[name]
     try:
-        return *answer(history, name, id, message.body), None
+        return *answer(history, producers, name, id, message.body), None
     except Refusal as refusal:
         what, part = refusal.args
         tree = {"error": what} if part is None else {"error": what, "name": part}
         return 400, tree, None
 
 
-def answer(history, name, id, body):
+def answer(history, producers, name, id, body):
     if name == "stats":
         return answer_stats(history)
+    if name == "log":
+        return answer_log(history, read_from(id))
     if id is not None:
         return answer_vertex(history, name.removesuffix("s"), read_id(id))
     ask = read_body(name, body)
     if name != "interactions":
         return answer_query(history, name, ask)
-    before = history.length()
-    history.items += ask.items
-    return 200, {"from": before, "length": history.length()}
+    return post_batch(history, producers, ask)
 
 
 def response(status, tree, close, allow=None):
@@ -116,6 +117,7 @@ def response(status, tree, close, allow=None):
 def replay(input_bytes, history, routes=ROUTES):
     """The output and the status of one session, from the history on, to which it adds."""
     output, rest = b"", input_bytes
+    producers = {}  # what was noted last of each, which no run hands on
     while True:
         try:
             message, rest = take_message(rest)
@@ -124,7 +126,7 @@ def replay(input_bytes, history, routes=ROUTES):
         except Refused as refused:
             error = refused.args[0]
             return output + response(STATUS_OF_REFUSED[error], {"error": error}, True), STOPPED
-        status, tree, allow = reply_to(history, message, routes)
+        status, tree, allow = reply_to(history, producers, message, routes)
         output += response(status, tree, message.close, allow)
         if message.close:
             return output, STOPPED

@@ -12,7 +12,7 @@ LAST = 9223372036854775807  # the largest identifier, and the last moment
 # The line on standard error, by the status.
 LINES = {
     0: b"",
-    2: b"usage: graphjet replay|serve|load [options]\n",
+    2: b"usage: graphjet replay|serve|load|follow [options]\n",
     6: b"truncated input\n",
     9: b"stopped early\n",
 }
@@ -297,6 +297,74 @@ def vertices():
     yield Row("the last twenty ends", stream, [posted(0, 25), (200, user), (200, vertex)])
 
 
+def one_favorite(**more):
+    items = [{"user": 1, "post": 10, "kind": "favorite"}]
+    return post("/interactions", json.dumps({"items": items, **more}))
+
+
+def repeated(start, length):
+    return 200, '{"from":%d,"length":%d,"repeated":true}' % (start, length)
+
+
+def out_of_turn(what, last):
+    return 409, '{"error":"%s","last":%d}' % (what, last)
+
+
+def numbers():
+    """A producer's number acts once, and the next one alone is taken."""
+    sent = [one_favorite(producer=5, number=number) for number in (1, 1, 3, 2, 1)]
+    kinds = NO_KINDS.replace('"favorite":0', '"favorite":2')
+    stats = (200, '{"length":2,"base":0,"capacity":4096,"segments":4,"kinds":%s}' % kinds)
+    replies = [posted(0, 1), repeated(0, 1), out_of_turn("skipped", 1), posted(1, 2), out_of_turn("old", 2), stats]
+    yield Row("one producer", b"".join(sent) + get("/stats"), replies)
+    sent = [one_favorite(producer=producer, number=1) for producer in (1, 1024, 2, 1)] + [one_favorite()]
+    replies = [posted(0, 1), posted(1, 2), posted(2, 3), repeated(0, 1), posted(3, 4)]
+    yield Row("each producer has numbers of its own", b"".join(sent), replies)
+    other = '{"number":1,"items":[{"kind":"click","post":20,"user":2}],"producer":5}'
+    stream = one_favorite(producer=5, number=1) + post("/interactions", other)
+    yield Row("a number repeats whatever its items", stream, [posted(0, 1), repeated(0, 1)])
+    for fields, what, name in [
+        ({"producer": 1025, "number": 1}, "range", "producer"),
+        ({"producer": -1, "number": 1}, "field", "producer"),
+        ({"producer": 5}, "range", "number"),
+        ({"number": 5}, "range", "number"),
+        ({"producer": 5, "number": 2**48 + 1}, "range", "number"),
+        ({"producer": 1025, "number": "1"}, "range", "producer"),
+        ({"producer": 0, "number": "1"}, "field", "number"),
+    ]:
+        yield Row(f"numbers {fields}", one_favorite(**fields), [refused(what, name)])
+    last = one_favorite(producer=5, number=2**48)
+    yield Row("the last number", last, [out_of_turn("skipped", 0)])
+    yield Row("zeros stand for no number", one_favorite(producer=0, number=0) * 2, [posted(0, 1), posted(1, 2)])
+
+
+def pages():
+    """The interactions from a place on, a thousand at most, as long as the window has the place."""
+    first = '{"length":1,"from":0,"items":[{"user":1,"post":10,"kind":"favorite","at":0}]}'
+    replies = [posted(0, 1), (200, first), (200, '{"length":1,"from":1,"items":[]}'), (409, '{"error":"ahead","length":1}')]
+    yield Row("three places", FIRST + b"".join(get(f"/log/{place}") for place in range(3)), replies)
+    gone = (409, '{"error":"gone","length":33,"base":16}')
+    items = ['{"user":7,"post":%d,"kind":"tweet","at":0}' % place for place in range(33)]
+    last = (200, '{"length":33,"from":16,"items":[%s]}' % ",".join(items[16:]))
+    stream = batch(*[(7, place, "tweet") for place in range(33)]) + get("/log/15") + get("/log/16")
+    yield Row("a place before the window", stream, [posted(0, 33), gone, last], conf=(16, 2))
+    items = ['{"user":7,"post":%d,"kind":"tweet","at":3}' % place for place in range(1002)]
+    whole = (200, '{"length":1002,"from":2,"items":[%s]}' % ",".join(items[2:]))
+    page = (200, '{"length":1002,"from":1,"items":[%s]}' % ",".join(items[1:1001]))
+    stream = batch(*[(7, place, "tweet", 3) for place in range(1002)]) + get("/log/1") + get("/log/02?x")
+    yield Row("a thousand interactions", stream, [posted(0, 1002), page, whole])
+    for path, reply in [
+        ("/log/x", refused("field", "from")),
+        ("/log/-1", refused("field", "from")),
+        ("/log/%d" % 2**48, (409, '{"error":"ahead","length":0}')),
+        ("/log/%d" % (2**48 + 1), refused("range", "from")),
+        ("/log", NO_ROUTE),
+        ("/log/", NO_ROUTE),
+    ]:
+        yield Row(path, get(path), [reply])
+    yield Row("a page by POST", post("/log/0", "{}"), [NO_METHOD], contains=(b"\r\nAllow: GET\r\n",))
+
+
 # Heads.
 
 
@@ -480,7 +548,7 @@ def paths():
 
 SECTIONS = [
     *[whole_sessions, cut_sessions, walks, subgraphs, similarities, counts, counts_by_kind],
-    *[moments, all_moments],
+    *[moments, all_moments, numbers, pages],
     *[windows, long_batches, vertices, refused_streams, whole_heads, closings],
     *[refused_bodies, refused_counts, refused_items, paths],
 ]

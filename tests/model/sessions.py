@@ -8,7 +8,6 @@ At the first session that differs, the number, the stream and both answers are s
 `--count 1 --seed` with that number runs it again.
 """
 
-import argparse
 import os
 import random
 import subprocess
@@ -19,6 +18,7 @@ import time
 from concurrent.futures import ThreadPoolExecutor
 from pathlib import Path
 
+from agreement import arguments
 from heads import NeedMore, Refused, take_message
 from model import FIRST_ROUTES, OPTIONS, ROUTES, run
 from streams import a_session
@@ -139,14 +139,10 @@ def compare(settings):
 
 
 def main():
-    parser = argparse.ArgumentParser(description="random sessions, by the program and the model")
+    parser = arguments("random sessions, by the program and the model", "session", 2000)
     option = parser.add_argument
-    option("--program", required=True)
-    option("--count", type=int, default=2000)
-    option("--seed", type=int, default=1, help="the number of the first session")
     option("--only-first-routes", action="store_true", help="without /subgraph, /similar and /count")
     option("--options", action="store_true", help="with --capacity and --segments")
-    option("--jobs", type=int, default=2, help="programs that run at a time")
     option("--keep", help="a file for the input of a session that differs")
     settings = parser.parse_args()
     settings.routes = FIRST_ROUTES if settings.only_first_routes else ROUTES

@@ -63,6 +63,8 @@ def since(rng):
 
 
 OPTIONAL = {
+    "producer": lambda rng: rng.choice([0, 1, 1, 2, 1024]),
+    "number": lambda rng: rng.choice([0, 1, 1, 1, 2, 2, 3, 4]),
     "seed": lambda rng: rng.choice([0, 1, 2**64 - 1, rng.randrange(2**64), rng.randrange(100)]),
     "kinds": lambda rng: [rng.choice(KINDS) for _ in range(rng.randint(1, 4))],
     "reset": lambda rng: rng.choice([0, 1, 1500, 5000, 9999, 10000]),
@@ -81,6 +83,8 @@ NEEDED = {
     "count": {"seeds": some_weighted},
 }
 AT_THE_LIMITS = {
+    "producer": "0 1 1024 1025 -1",
+    "number": "0 1 281474976710656 281474976710657 -1",
     "steps": "0 1 100000 100001",
     "iterations": "0 1 20 21",
     "seed": "0 18446744073709551615 18446744073709551616",
@@ -106,8 +110,8 @@ WEIGHTED_AT_THE_LIMITS = """
     [{"user":1,"weight":1},{"weight":2,"user":2},{"user":1,"weight":3},null]
 """
 OPTIONAL_OF = {
-    "interactions": [],
-    "walk": [name for name in OPTIONAL if name != "least"],
+    "interactions": ["producer", "number"],
+    "walk": [name for name in OPTIONAL if name not in ("least", "producer", "number")],
     "subgraph": ["kinds", "top", "proof", "since", "not_before"],
     "similar": ["seed", "kinds", "top", "since", "not_before"],
     "count": ["kinds", "least", "top", "proof", "since", "not_before"],
@@ -117,6 +121,8 @@ OPTIONAL_OF = {
 def a_body(rng, route):
     body = {name: value(rng) for name, value in NEEDED[route].items()}
     share = rng.choice([0.1, 0.3, 0.6])
+    if route == "interactions":
+        share = rng.choice([0, 0, 0.5, 0.95])
     for name in OPTIONAL_OF[route]:
         if rng.random() < share:
             body[name] = OPTIONAL[name](rng)
@@ -193,6 +199,7 @@ ODD_VALUES = [
 ]
 ODD_TREES = [text for text in ODD_VALUES if is_tree(text)]
 ODD_NAMES = r"x Steps st\u0065ps steps\u0000 seeds item \u0069tems since user weight least".split()
+ODD_NAMES += "producer number Producer from".split()
 ODD_NAMES += ["", "steps ", "\u00e9", "at", "not_before", "Not_before", "notbefore"]
 ODD_ITEMS = """
     1 null [] {} "" true {"x":0}
@@ -341,7 +348,7 @@ ODD_TARGETS = b"""
     /users/ /users/1 /users/1/ /users//1 /users/1/2 //users/1 /users/abc /users/+1 /users/-1 users/1
     /users/1a /users/0x1 /counts /users/%31 /users/{id} /posts/* /users/1.0 /USERS/1 /Stats /walk/ /walk?
     /posts/9223372036854775807 /posts/9223372036854775808 /posts/18446744073709551616 /userss/1
-    http://127.0.0.1/stats /walk/1 /interactions/ /count /log/1 /stats#x /userz
+    http://127.0.0.1/stats /walk/1 /interactions/ /count /log /log/ /log/x /log/-1 /log/1/2 /logs/1 /stats#x /userz
     /users/1?/2 /users/?1
 """.split()
 ODD_TARGETS += [b"/users/" + b"9" * 6000, b"/posts/" + b"0" * 6000 + b"7", b"/walk?" + b"a" * 3000]
@@ -369,6 +376,9 @@ def a_good_message(rng, routes):
     route = rng.choice([*routes, "interactions", "walk"])
     if route == "stats":
         return a_message(rng, "GET", rng.choice([b"/stats", b"/stats?", b"/stats?x=/1?"]))
+    if route == "log":
+        place = rng.choice([0, 0, rng.randint(0, 9), rng.randint(0, 60), rng.randint(0, 400), 2**48, 2**48 + 1])
+        return a_message(rng, "GET", b"/log/" + b"0" * rng.choice([0, 0, 0, 25]) + b"%d" % place)
     if route in ("users", "posts"):
         id = "0" * rng.choice([0, 0, 0, 1, 25]) + str(an_id(rng))
         return a_message(rng, "GET", f"/{route}/{id}".encode() + rng.choice([b"", b"", b"?a"]))
