@@ -181,8 +181,8 @@ impl<W: Grow + Drop, J: Opening> Seat<W, J> {
         self.posted += count;
     }
 
-    // What the seat saw.
-    pub(crate) fn front(&self) -> &Front<J>
+    /// What it saw, as a token of the history. It takes no memory.
+    pub fn front(&self) -> &Front<J>
         ensures { result.now ≡ self.now.front }
     {
         &self.front

@@ -25,12 +25,12 @@ pub struct MemoryDoor {
 impl MemoryDoor {
     ghost use Rattle.std.specs.Prelude.{◌≡◌, [], All, IfOk, IsTrue};
     ghost use Rattle.gj_serve.specs.Fresh.{IsFreshLink};
-    ghost use Rattle.gj_serve.specs.MemoryDoors.{handed_by, back_at, nones_of, entered_by, faults_at, is_steady_door};
+    ghost use Rattle.gj_serve.specs.MemoryDoors.{handed_by, back_at, nones_of, entered_by, given_to, faults_at, is_steady_door};
 
     /// A door of these links. It takes memory for those that come back.
     pub fn new(alloc: Global, links: Vec<MemoryLink>, fails: Vec<u64>) -> Result<Self, Memory>
         requires { All IsFreshLink links.items }
-        ensures fresh { IfOk result (λ d. (handed_by d ≡ 0) × (back_at d ≡ 0) × (nones_of d ≡ 0) × (faults_at d ≡ 0) × (entered_by d ≡ 0)) }
+        ensures fresh { IfOk result (λ d. (handed_by d ≡ 0) × (back_at d ≡ 0) × (nones_of d ≡ 0) × (faults_at d ≡ 0) × (entered_by d ≡ 0) × (given_to d ≡ [])) }
         ensures steady { fails.items ≡ [] → IfOk result (λ d. IsTrue (is_steady_door d)) }
     {
         match Vec::with_capacity(alloc, links.len()) {
@@ -55,8 +55,8 @@ impl MemoryDoor {
 impl Door for MemoryDoor {
     type Link = MemoryLink;
 
-    ghost use Rattle.std.specs.Prelude.{◌≡◌, ◌+◌, ◌^◌, ◌<◌, ◌≤◌, IsTrue};
-    ghost use Rattle.gj_serve.specs.MemoryDoors.{handed_by, back_at, nones_of, entered_by, faults_at, is_steady_door};
+    ghost use Rattle.std.specs.Prelude.{◌≡◌, ◌+◌, ◌^◌, ◌<◌, ◌≤◌, ◌++◌, ◌∷◌, [], true, IsTrue};
+    ghost use Rattle.gj_serve.specs.MemoryDoors.{handed_by, back_at, nones_of, entered_by, given_to, faults_at, is_steady_door};
 
     ghost handed = { handed_by };
 
@@ -65,6 +65,10 @@ impl Door for MemoryDoor {
     ghost nones = { nones_of };
 
     ghost entered = { entered_by };
+
+    ghost tells = { λ _. true };
+
+    ghost given = { given_to };
 
     ghost faults = { faults_at };
 
@@ -90,6 +94,8 @@ impl Door for MemoryDoor {
         requires in_range { back_at self.old < 2 ^ 40 }
         ensures back { back_at self.new ≡ back_at self.old + 1 }
         ensures entered { entered_by self.new ≡ entered_by self.old + done.entered }
+        ensures told { true ≡ true }
+        ensures given { IsTrue true → given_to self.new ≡ given_to self.old ++ done ∷ [] }
         ensures others { (handed_by self.new ≡ handed_by self.old) × (nones_of self.new ≡ nones_of self.old) }
         ensures later { faults_at self.old ≤ faults_at self.new }
         ensures steady { IsTrue (is_steady_door self.old) → IsTrue (is_steady_door self.new) }

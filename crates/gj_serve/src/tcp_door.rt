@@ -86,7 +86,7 @@ fn is_gone(kind: ErrorKind) -> bool {
 impl<R: Net<Listener = TcpListener, Stream = TcpStream> + Clock> Door for TcpDoor<R> {
     type Link = TcpLink;
 
-    ghost use Rattle.std.specs.Prelude.{false, IsTrue};
+    ghost use Rattle.std.specs.Prelude.{false, [], IsTrue};
 
     ghost handed = { λ d. d.handed };
 
@@ -97,6 +97,10 @@ impl<R: Net<Listener = TcpListener, Stream = TcpStream> + Clock> Door for TcpDoo
     ghost faults = { λ d. d.faults };
 
     ghost entered = { λ d. d.entered };
+
+    ghost tells = { λ _. false };
+
+    ghost given = { λ _. [] };
 
     ghost steady = { λ _. false };
 
@@ -135,6 +139,8 @@ impl<R: Net<Listener = TcpListener, Stream = TcpStream> + Clock> Door for TcpDoo
         requires in_range { self.old.back < 2 ^ 40 }
         ensures back { self.new.back ≡ self.old.back + 1 }
         ensures entered { self.new.entered ≡ self.old.entered + done.entered }
+        ensures told { false ≡ false }
+        ensures given { IsTrue false → [] ≡ [] ++ done ∷ [] }
         ensures others { (self.new.handed ≡ self.old.handed) × (self.new.nones ≡ self.old.nones) }
         ensures later { self.old.faults ≤ self.new.faults }
         ensures steady { IsTrue false → IsTrue false }

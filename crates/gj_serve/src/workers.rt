@@ -2,6 +2,7 @@
 ghost use Rattle.std.specs.Prelude.{◌≡◌, ◌+◌, ◌^◌, ◌<◌, ◌≤◌, ℕ, length, slice_index_or, All};
 ghost use Rattle.std.specs.Thread.{IsSend};
 ghost use Rattle.gj_serve.specs.Asking.{TakesLink};
+ghost use Rattle.gj_serve.specs.Given.{HasServed};
 ghost use Rattle.gj_serve.specs.Passes.{DeskServed, no_tallies};
 
 use crate::desks::Desk;
@@ -12,7 +13,7 @@ use crate::naming::Stating;
 use crate::pass::Pass;
 use gj_base::{Gate, Grow, Keeper};
 use gj_http::Routes;
-use gj_log::Opening;
+use gj_log::{Front, Opening};
 use gj_publish::{Batch, Copies, Writer};
 use gj_session::{Done, serve_session};
 use std::alloc::Global;
@@ -22,9 +23,9 @@ use std::thread;
 use std::thread::Threads;
 
 /// Takes the next connection under the door's lock.
-fn take<R: Wait, D: Door, T: Stating, B: Ledger, O: Ledger, E: Ledger>(
+fn take<R: Wait, D: Door, J: Opening, T: Stating, B: Ledger, O: Ledger, E: Ledger>(
     rt: &R,
-    door: &Mutex<DoorBook<D, T, B, O, E>>,
+    door: &Mutex<DoorBook<D, J, T, B, O, E>>,
     pass: &mut Pass<T, B, O, E>,
 ) -> Taken<D::Link>
     requires { pass.old.overs < 2 ^ 40 }
@@ -34,17 +35,19 @@ fn take<R: Wait, D: Door, T: Stating, B: Ledger, O: Ledger, E: Ledger>(
 }
 
 /// Gives a connection back under the door's lock.
-fn give<R: Wait, D: Door, T: Stating, B: Ledger, O: Ledger, E: Ledger>(
+fn give<R: Wait, D: Door, J: Opening, T: Stating, B: Ledger, O: Ledger, E: Ledger>(
     rt: &R,
-    door: &Mutex<DoorBook<D, T, B, O, E>>,
+    door: &Mutex<DoorBook<D, J, T, B, O, E>>,
     pass: &mut Pass<T, B, O, E>,
     done: Done<D::Link>,
+    seen: Front<J>,
 )
+    requires served { HasServed D.Link.tells D.Link.stream D.Link.read_faults D.Link.reads D.Link.written D.Link.write_faults J.conf seen done }
     requires some { pass.old.back < pass.old.taken }
     requires few { pass.old.entered + done.entered ≤ 2 ^ 48 }
     ensures { pass.new ≡ record pass.old { back = pass.old.back + 1; entered = pass.old.entered + done.entered } }
 {
-    door.lock(rt).give_link(pass, done)
+    door.lock(rt).give_link(pass, done, seen)
 }
 
 /// One worker: it takes a connection, serves it and gives it back, until it is told an end.
@@ -66,7 +69,7 @@ fn work<
     writer: &Mutex<Writer<J, C, K>>,
     desk: &mut Desk<W, J, T, B, O, E>,
     routes: &Routes,
-    door: &Mutex<DoorBook<D, T, B, O, E>>,
+    door: &Mutex<DoorBook<D, J, T, B, O, E>>,
     gate: &G,
 )
     requires { desk.old.pass ≡ no_tallies }
@@ -78,7 +81,7 @@ fn work<
             Taken::Over(_) => return,
             Taken::Link(link) => {
                 let done = serve_session(rt, alloc, writer, seat, routes, framer, link, gate);
-                give(rt, door, pass, done);
+                give(rt, door, pass, done, seat.front().again());
             }
         }
     }
@@ -105,7 +108,7 @@ pub fn serve_all<
     writer: &Mutex<Writer<J, C, K>>,
     desks: &mut [Desk<W, J, T, B, O, E>],
     routes: &Routes,
-    door: &Mutex<DoorBook<D, T, B, O, E>>,
+    door: &Mutex<DoorBook<D, J, T, B, O, E>>,
     gate: &G,
 )
     requires some { 0 < length desks.old }

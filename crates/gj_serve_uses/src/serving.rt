@@ -1,7 +1,7 @@
 //! Two workers over a door in memory, from the opening of an index to what is left of it.
-ghost use Rattle.std.specs.Prelude.{◌≡◌, ◌+◌, ◌<◌, ◌≤◌, ◌^◌, false, Some, All, IfSome, sum_by, vec_len};
+ghost use Rattle.std.specs.Prelude.{◌≡◌, ◌+◌, ◌<◌, ◌≤◌, ◌^◌, [], false, Some, All, IfSome, sum_by, vec_len};
 ghost use Rattle.gj_base.specs.History.{empty_history};
-ghost use Rattle.gj_serve.specs.MemoryDoors.{handed_by, back_at, nones_of, entered_by, faults_at};
+ghost use Rattle.gj_serve.specs.MemoryDoors.{handed_by, back_at, nones_of, entered_by, given_to, faults_at};
 ghost use Rattle.gj_serve.specs.Passes.{no_tallies};
 
 use gj_base::{Conf, Gate, ListGraph, MemoryLink};
@@ -98,7 +98,7 @@ fn served_by<
     writer: Writer<J, C, NoKeeper>,
     mut desks: Vec<Desk<ListGraph, J, T, B, O, E>>,
     routes: &Routes,
-    book: DoorBook<MemoryDoor, T, B, O, E>,
+    book: DoorBook<MemoryDoor, J, T, B, O, E>,
     gate: &G,
 ) -> Option<Left>
     requires named { (T.passes ≡ T.parts) × (T.passes ≡ B.parts) × (T.passes ≡ O.parts) × (T.passes ≡ E.parts) }
@@ -123,14 +123,14 @@ fn served_by<
     let length = writer.length();
     match cleared {
         None => {
-            let _door = book.into_door();
+            let _left = book.into_door();
             None
         }
         Some(Cleared { seats, passes }) => {
             let served = book.settle(passes);
             let settled = writer.start() + writer.settle(seats);
             Some(Left {
-                back: book.into_door().into_back(),
+                back: book.into_door().0.into_back(),
                 served,
                 settled,
                 length,
@@ -159,7 +159,7 @@ fn over_door<
     gate: &G,
 ) -> Option<Left>
     requires seats { (vec_len seats ≡ 2) × (2 ≡ J.parts) }
-    requires fresh { (handed_by door ≡ 0) × (back_at door ≡ 0) × (nones_of door ≡ 0) × (entered_by door ≡ 0) }
+    requires fresh { (handed_by door ≡ 0) × (back_at door ≡ 0) × (nones_of door ≡ 0) × (entered_by door ≡ 0) × (given_to door ≡ []) }
     requires names { (tickets.taken.name ≡ T.name) × (tickets.out.name ≡ B.name) × (tickets.overs.name ≡ O.name) × (tickets.entered.name ≡ E.name) }
     requires parts { (tickets.taken.parts ≡ T.parts) × (tickets.out.parts ≡ B.parts) × (tickets.overs.parts ≡ O.parts) × (tickets.entered.parts ≡ E.parts) }
     requires all { (2 ≡ T.parts) × (2 ≡ B.parts) × (2 ≡ O.parts) × (2 ≡ E.parts) }
@@ -168,11 +168,12 @@ fn over_door<
     requires steady { T.steady ≡ false }
 {
     let routes = Routes::new(alloc).ok()?;
-    match open_door::<MemoryDoor, T, B, O, E>(alloc, door, tickets, 2, 2) {
+    let front = seats[0].front().again();
+    match open_door::<MemoryDoor, J, T, B, O, E>(alloc, door, front, tickets, 2, 2) {
         Err(_refused) => None,
         Ok((book, passes)) => match set_up(alloc, seats, passes) {
             None => {
-                let _door = book.into_door();
+                let _left = book.into_door();
                 None
             }
             Some(desks) => served_by(rt, alloc, writer, desks, &routes, book, gate),
@@ -195,7 +196,7 @@ fn by_seats<
     gate: &G,
 ) -> Option<Left>
     requires seats { (vec_len seats ≡ 2) × (2 ≡ J.parts) }
-    requires fresh { (handed_by door ≡ 0) × (back_at door ≡ 0) × (nones_of door ≡ 0) × (entered_by door ≡ 0) }
+    requires fresh { (handed_by door ≡ 0) × (back_at door ≡ 0) × (nones_of door ≡ 0) × (entered_by door ≡ 0) × (given_to door ≡ []) }
 {
     over_door::<J, C, R, G, Brand, Brand, Brand, Brand>(
         rt,
@@ -227,7 +228,7 @@ fn over_index<
     requires parts { (2 ≡ J.places) × (2 ≡ J.parts) }
     requires conf { conf ≡ J.conf }
     requires opening { J.opening ≡ Some (empty_history 0) }
-    requires fresh { (handed_by door ≡ 0) × (back_at door ≡ 0) × (nones_of door ≡ 0) × (entered_by door ≡ 0) }
+    requires fresh { (handed_by door ≡ 0) × (back_at door ≡ 0) × (nones_of door ≡ 0) × (entered_by door ≡ 0) × (given_to door ≡ []) }
 {
     let opened = open_index::<J, NoKeeper, ListGraph, R>(
         rt, alloc, naming, conf, NoKeeper, 2, grants,
@@ -245,7 +246,7 @@ pub(crate) fn two_workers<R: Threads + Wait + Copy + Drop + Send + Sync, G: Gate
     door: MemoryDoor,
     gate: &G,
 ) -> Option<Left>
-    requires fresh { (handed_by door ≡ 0) × (back_at door ≡ 0) × (nones_of door ≡ 0) × (entered_by door ≡ 0) }
+    requires fresh { (handed_by door ≡ 0) × (back_at door ≡ 0) × (nones_of door ≡ 0) × (entered_by door ≡ 0) × (given_to door ≡ []) }
 {
     let conf = Conf::make(16, 2)?;
     let mut grants = Grants::new();

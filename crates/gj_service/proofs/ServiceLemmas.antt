@@ -127,8 +127,8 @@ pub left_prepared : (conf : Configuration) (a b c : Kept) → IsPrepared conf a 
 left_prepared conf a b c x e = record { tells = ap (λ (k : Kept). k.tells) e ∙ x.tells; bare = ap (λ (k : Kept). k.bare) e ∙ x.bare; kept = λ yes. inr (e ∙ x.kept yes) }
 
 -- a service, where more is known of its first and its last history
-pub service_as : (plan : Plan) (opens opens' left left' : History → Type 0) (a b : DoorAt) (o p : Outgoing) (end : ServiceEnd)
-    → ((h : History) → opens h → opens' h) → ((h : History) → left h → left' h) → Service plan opens left a b o p end → Service plan opens' left' a b o p end
+pub service_as : (plan : Plan) (opens opens' left left' : History → Type 0) {heard : History → Type 0} (a b : DoorAt) (o p : Outgoing) (end : ServiceEnd)
+    → ((h : History) → opens h → opens' h) → ((h : History) → left h → left' h) → Service plan opens left heard a b o p end → Service plan opens' left' heard a b o p end
 service_as plan opens opens' left left' a b o p end first last x = record {
   opening = x.opening;
   opened = first x.opening x.opened;
@@ -136,6 +136,7 @@ service_as plan opens opens' left left' a b o p end first last x = record {
   begins = x.begins;
   entered_is = x.entered_is;
   bounded = x.bounded;
+  sessions = x.sessions;
   kept = last x.last x.kept;
   told = x.told;
 }

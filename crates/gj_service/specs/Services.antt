@@ -66,15 +66,16 @@ pub record Told (plan : Plan) (length : ℕ) (a b : DoorAt) (old new : Outgoing)
   pub done : end ≡ Done → (b.handed ≡ plan.sessions) ⊎ (0 < b.nones)
   pub fault : end ≡ DoorFault → Rose a.faults b.faults
 
--- an index was served: the last history begins with the opening one, it is longer by what the sessions said that entered, it
--- is left, and its length is told
-pub record Service (plan : Plan) (opens left : History → Type 0) (a b : DoorAt) (old new : Outgoing) (end : ServiceEnd) : Type 0 where
+-- an index was served: the last history begins with the opening one, it is longer by what the sessions said that entered, all
+-- that the sessions were answered over begins it, it is left, and its length is told
+pub record Service (plan : Plan) (opens left heard : History → Type 0) (a b : DoorAt) (old new : Outgoing) (end : ServiceEnd) : Type 0 where
   pub opening : History
   pub opened : opens opening
   pub last : History
   pub begins : Begins opening last
   pub entered_is : length_of last ≡ length_of opening + b.entered
   pub bounded : length_of last ≤ 2 ^ 48
+  pub sessions : heard last
   pub kept : left last
   pub told : Told plan (length_of last) a b old new end
 

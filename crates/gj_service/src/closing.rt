@@ -3,6 +3,7 @@ ghost use Rattle.std.specs.Prelude.{◌≡◌, ℕ, ◌+◌, ◌<◌, ◌≤◌,
 ghost use Rattle.gj_base.specs.Causes.{Rose};
 ghost use Rattle.gj_base.specs.History.{length_of};
 ghost use Rattle.gj_serve.specs.declared.ends.DoorEnd.TheVariants.{Spent, Closed, Fault};
+ghost use Rattle.gj_serve.specs.Given.{AreServed};
 ghost use Rattle.gj_service.specs.Desks.{IsFreshDesk, IsServedDesk};
 
 use gj_base::{Grow, Keeper, OpenGate};
@@ -80,7 +81,7 @@ pub fn serve_desks<
     passes: Vec<Pass<T, B, O, E>>,
     seats: Vec<Seat<W, J>>,
     routes: &Routes,
-    book: DoorBook<D, T, B, O, E>,
+    book: DoorBook<D, J, T, B, O, E>,
 ) -> Rest<D, J, C, K>
     requires named { (T.passes ≡ T.parts) × (T.passes ≡ B.parts) × (T.passes ≡ O.parts) × (T.passes ≡ E.parts) }
     requires all { (vec_len desks ≡ T.passes) × (vec_len desks ≡ J.parts) }
@@ -102,6 +103,9 @@ pub fn serve_desks<
     // The history is what it was at opening, and what the sessions said that entered.
     ensures length { result.length ≡ length_of result.writer.accepted }
     ensures entered { result.length ≡ result.writer.start + D.entered result.door }
+
+    // Each link that came back had a session in which all that was seen begins that history, where they are told.
+    ensures given { AreServed D.Link.tells D.Link.stream D.Link.read_faults D.Link.reads D.Link.written D.Link.write_faults J.conf result.writer.accepted (IsTrue (D.tells result.door)) (D.back result.door) (D.given result.door) }
 {
     let writer = Mutex::new(writer);
     let book = Mutex::new(book);
@@ -119,11 +123,13 @@ pub fn serve_desks<
     let mut book = book.into_inner();
     let served = book.settle(passes);
     let _ = writer.settle(seats);
+    let (door, front) = book.into_door();
+    writer.confirm(&front);
     Rest {
         sessions: served.sessions,
         length: writer.length(),
         end: served.door,
-        door: book.into_door(),
+        door,
         writer,
     }
 }

@@ -1,7 +1,8 @@
 //! Serving, from the open door to the last line.
-ghost use Rattle.std.specs.Prelude.{◌≡◌, ◌≢◌, ◌+◌, ◌<◌, ◌≤◌, All, IsTrue, vec_len};
+ghost use Rattle.std.specs.Prelude.{◌≡◌, ◌≢◌, ◌+◌, ◌<◌, ◌≤◌, [], All, IsTrue, vec_len};
 ghost use Rattle.gj_base.specs.History.{length_of};
 ghost use Rattle.gj_base.specs.Streams.{outgoing};
+ghost use Rattle.gj_serve.specs.Given.{AreServed};
 ghost use Rattle.gj_service.specs.Services.{IsPlan, Told, door_at};
 ghost use Rattle.gj_service.specs.declared.end.ServiceEnd.TheVariants as ends;
 
@@ -52,7 +53,7 @@ pub fn serve_listening<
     routes: &Routes,
     out: &mut X,
 ) -> Listened<D, J, C, K>
-    requires fresh { (D.handed door ≡ 0) × (D.back door ≡ 0) × (D.nones door ≡ 0) × (D.entered door ≡ 0) }
+    requires fresh { (D.handed door ≡ 0) × (D.back door ≡ 0) × (D.nones door ≡ 0) × (D.entered door ≡ 0) × (D.given door ≡ []) }
     requires plan { IsPlan plan }
     requires seats { (vec_len seats ≡ plan.workers) × (vec_len seats ≡ J.parts) }
     requires unused { All (λ s. s.posted ≡ 0) seats.items }
@@ -75,6 +76,9 @@ pub fn serve_listening<
     // The history is what it was at opening, and what the sessions said that entered.
     ensures entered { length_of result.writer.accepted ≡ result.writer.start + D.entered result.door }
 
+    // Each link that came back had a session in which all that was seen begins that history, where they are told.
+    ensures given { AreServed D.Link.tells D.Link.stream D.Link.read_faults D.Link.reads D.Link.written D.Link.write_faults J.conf result.writer.accepted (IsTrue (D.tells result.door)) (D.back result.door) (D.given result.door) }
+
     // Without memory for the workers nothing is done.
     ensures untouched { result.end ≡ ends.Memory → (result.door ≡ door) × (result.writer ≡ writer) × (out.new ≡ out.old) }
 {
@@ -95,7 +99,7 @@ pub fn serve_listening<
             if let Err(Failed) = send_ready(out, plan.port) {
                 return Listened {
                     end: ServiceEnd::WriteFault,
-                    door: book.into_door(),
+                    door: book.into_door().0,
                     writer,
                 };
             }

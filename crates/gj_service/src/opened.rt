@@ -1,11 +1,12 @@
 //! A service over a keeper.
-ghost use Rattle.std.specs.Prelude.{◌≡◌, ◌≢◌, ◌+◌, ◌<◌, ◌≤◌, ◌^◌, All, IsTrue, IfSome, None, vec_len};
+ghost use Rattle.std.specs.Prelude.{◌≡◌, ◌≢◌, ◌+◌, ◌<◌, ◌≤◌, ◌^◌, [], All, IsTrue, IfSome, None, vec_len};
 ghost use Rattle.gj_base.specs.Causes.{one_more};
 ghost use Rattle.gj_base.specs.History.{length_of};
 ghost use Rattle.gj_keep.specs.Books.{Keeps};
 ghost use Rattle.gj_keep.specs.Openings.{IsLeft, due, opening_of};
 ghost use Rattle.gj_keep.specs.declared.opening.OpenError.TheVariants as why;
 ghost use Rattle.gj_base.specs.Streams.{outgoing};
+ghost use Rattle.gj_serve.specs.Given.{AreServed};
 ghost use Rattle.gj_service.specs.Services.{IsOpened, IsPlan, IsUnserved, Judges, Service, TellsConf, TellsRow, door_at};
 ghost use Rattle.gj_service.specs.declared.end.ServiceEnd.TheVariants as ends;
 
@@ -71,12 +72,13 @@ fn serve_index<
     seats: Vec<Seat<W, J>>,
     out: &mut X,
 ) -> Over<K, D>
-    requires fresh { (D.handed door ≡ 0) × (D.back door ≡ 0) × (D.nones door ≡ 0) × (D.entered door ≡ 0) }
+    requires fresh { (D.handed door ≡ 0) × (D.back door ≡ 0) × (D.nones door ≡ 0) × (D.entered door ≡ 0) × (D.given door ≡ []) }
     requires plan { IsPlan plan }
     requires seats { (vec_len seats ≡ plan.workers) × (vec_len seats ≡ J.parts) }
     requires unused { All (λ s. s.posted ≡ 0) seats.items }
     requires opened { writer.start ≡ length_of writer.accepted }
     ensures service { Service plan (λ h. IfSome J.opening (λ o. o ≡ h)) (Keeps J.conf (K.kept result.keeper))
+        (λ h. AreServed D.Link.tells D.Link.stream D.Link.read_faults D.Link.reads D.Link.written D.Link.write_faults J.conf h (IsTrue (D.tells result.door)) (D.back result.door) (D.given result.door))
         (door_at (D.handed door) (D.back door) (D.nones door) (D.faults door) (D.entered door))
         (door_at (D.handed result.door) (D.back result.door) (D.nones result.door) (D.faults result.door) (D.entered result.door))
         (outgoing (X.tells out.old) (X.written out.old) (X.faults out.old) (X.sure out.old))
@@ -128,7 +130,7 @@ fn serve_named<
     out: &mut X,
     grants: &mut Grants,
 ) -> Over<K, D>
-    requires fresh { (D.handed door ≡ 0) × (D.back door ≡ 0) × (D.nones door ≡ 0) × (D.entered door ≡ 0) }
+    requires fresh { (D.handed door ≡ 0) × (D.back door ≡ 0) × (D.nones door ≡ 0) × (D.entered door ≡ 0) × (D.given door ≡ []) }
     requires plan { IsPlan plan }
     requires grants { grants.old < 2 ^ 40 }
     requires named { (naming.history ≡ J.book) × (naming.blank.name ≡ J.name) × (naming.blank.parts ≡ J.parts) }
@@ -136,6 +138,7 @@ fn serve_named<
     requires conf { conf ≡ J.conf }
     requires opening { J.opening ≡ opening_of (K.kept keeper) }
     ensures service { IsOpened result.end → Service plan (λ h. IfSome (opening_of (K.kept keeper)) (λ o. o ≡ h)) (Keeps conf (K.kept result.keeper))
+        (λ h. AreServed D.Link.tells D.Link.stream D.Link.read_faults D.Link.reads D.Link.written D.Link.write_faults conf h (IsTrue (D.tells result.door)) (D.back result.door) (D.given result.door))
         (door_at (D.handed door) (D.back door) (D.nones door) (D.faults door) (D.entered door))
         (door_at (D.handed result.door) (D.back result.door) (D.nones result.door) (D.faults result.door) (D.entered result.door))
         (outgoing (X.tells out.old) (X.written out.old) (X.faults out.old) (X.sure out.old))
@@ -185,12 +188,13 @@ pub fn serve_over<
     out: &mut X,
     grants: &mut Grants,
 ) -> Over<K, D>
-    requires fresh { (D.handed door ≡ 0) × (D.back door ≡ 0) × (D.nones door ≡ 0) × (D.entered door ≡ 0) }
+    requires fresh { (D.handed door ≡ 0) × (D.back door ≡ 0) × (D.nones door ≡ 0) × (D.entered door ≡ 0) × (D.given door ≡ []) }
     requires plan { IsPlan plan }
     requires grants { grants.old < 2 ^ 40 }
 
     // What was served, written and kept, where the index was opened.
     ensures service { IsOpened result.end → Service plan (λ h. IfSome (opening_of (K.kept keeper)) (λ o. o ≡ h)) (Keeps conf (K.kept result.keeper))
+        (λ h. AreServed D.Link.tells D.Link.stream D.Link.read_faults D.Link.reads D.Link.written D.Link.write_faults conf h (IsTrue (D.tells result.door)) (D.back result.door) (D.given result.door))
         (door_at (D.handed door) (D.back door) (D.nones door) (D.faults door) (D.entered door))
         (door_at (D.handed result.door) (D.back result.door) (D.nones result.door) (D.faults result.door) (D.entered result.door))
         (outgoing (X.tells out.old) (X.written out.old) (X.faults out.old) (X.sure out.old))

@@ -1,5 +1,5 @@
 //! What the workers need, made before them.
-ghost use Rattle.std.specs.Prelude.{◌≡◌, ◌+◌, ◌<◌, ◌≤◌, ◌^◌, All, IsTrue, vec_len, vec_capacity, IfOk, IfErr, IfSome};
+ghost use Rattle.std.specs.Prelude.{◌≡◌, ◌+◌, ◌<◌, ◌≤◌, ◌^◌, [], All, IsTrue, vec_len, vec_capacity, IfOk, IfErr, IfSome};
 ghost use Rattle.gj_serve.specs.Passes.{no_tallies};
 ghost use Rattle.gj_service.specs.Desks.{IsFreshDesk};
 
@@ -21,7 +21,7 @@ pub(crate) struct Prepared<
     O: Ledger,
     E: Ledger,
 > {
-    pub book: DoorBook<D, T, B, O, E>,
+    pub book: DoorBook<D, J, T, B, O, E>,
     pub desks: Vec<Desk<W, J, T, B, O, E>>,
     pub passes: Vec<Pass<T, B, O, E>>,
     pub seats: Vec<Seat<W, J>>,
@@ -77,7 +77,7 @@ pub(crate) fn prepare<
     sessions: u64,
     seats: Vec<Seat<W, J>>,
 ) -> Result<Prepared<D, W, J, T, B, O, E>, NoDoor<D>>
-    requires fresh { (D.handed door ≡ 0) × (D.back door ≡ 0) × (D.nones door ≡ 0) × (D.entered door ≡ 0) }
+    requires fresh { (D.handed door ≡ 0) × (D.back door ≡ 0) × (D.nones door ≡ 0) × (D.entered door ≡ 0) × (D.given door ≡ []) }
     requires sessions { (1 ≤ sessions) × (sessions ≤ 1000000000) }
     requires seats { (1 ≤ vec_len seats) × (vec_len seats ≤ 16) }
     requires names { (tickets.taken.name ≡ T.name) × (tickets.out.name ≡ B.name) × (tickets.overs.name ≡ O.name) × (tickets.entered.name ≡ E.name) }
@@ -107,7 +107,8 @@ pub(crate) fn prepare<
     let Ok(spare_seats) = Vec::with_capacity(alloc, count) else {
         return Err(NoDoor { door });
     };
-    match open_door(alloc, door, tickets, sessions, count as u32) {
+    let front = seats[0].front().again();
+    match open_door(alloc, door, front, tickets, sessions, count as u32) {
         Err(refused) => Err(refused),
         Ok((book, passes)) => Ok(Prepared {
             book,

@@ -37,12 +37,12 @@ known_told kept h tells untold is =
     sym there
 
 -- a service over a keeper is one over the stores from which it came, and where it is at home again
-pub serves_home : (conf : Configuration) (path : List ℕ) (plan : Plan) (old new kept kept' : Kept) (f f' : ℕ) (sure sure' : Bool) (d e : DoorAt) (o p : Outgoing) (end : ServiceEnd)
+pub serves_home : {heard : Configuration → History → Type 0} (conf : Configuration) (path : List ℕ) (plan : Plan) (old new kept kept' : Kept) (f f' : ℕ) (sure sure' : Bool) (d e : DoorAt) (o p : Outgoing) (end : ServiceEnd)
     → (IsTrue old.tells → kept ≡ old) → new.tells ≡ old.tells → (IsTrue old.tells → new ≡ kept') → (IsTrue kept.bare → kept.tells ≡ false)
-    → (IsOpened end → Service plan (λ h. IfSome (opening_of kept) (λ x. x ≡ h)) (Keeps conf kept') d e o p end)
+    → (IsOpened end → Service plan (λ h. IfSome (opening_of kept) (λ x. x ≡ h)) (Keeps conf kept') (heard conf) d e o p end)
     → (IsUnserved end → IsLeft conf kept kept')
     → (IsTrue kept.tells → Judges (due conf kept) end) → TellsConf conf end → TellsRow conf end
-    → Serves conf (Some path) plan (record { stored = old; faults = f; steady = sure }) (record { stored = new; faults = f'; steady = sure' }) d e o p end
+    → Serves conf (Some path) plan (record { stored = old; faults = f; steady = sure }) (record { stored = new; faults = f'; steady = sure' }) d e heard o p end
 serves_home conf path plan old new kept kept' f f' sure sure' d e o p end out told home untold service left judged differs bad = record {
   service = λ is.
       service_as plan _ _ _ _ d e o p end
@@ -62,20 +62,20 @@ serves_home conf path plan old new kept kept' f f' sure sure' d e o p end out to
 }
 
 -- before the keeper nothing is done
-pub serves_not : (conf : Configuration) (path : List ℕ) (plan : Plan) (a b : StoresAt) (d : DoorAt) (o : Outgoing) (error : OpenError) → b.stored ≡ a.stored
-    → ((refusal : Option OpenError) → Judges refusal (ends.Refused error)) → TellsConf conf (ends.Refused error) → TellsRow conf (ends.Refused error) → Serves conf (Some path) plan a b d d o o (ends.Refused error)
+pub serves_not : {heard : Configuration → History → Type 0} (conf : Configuration) (path : List ℕ) (plan : Plan) (a b : StoresAt) (d : DoorAt) (o : Outgoing) (error : OpenError) → b.stored ≡ a.stored
+    → ((refusal : Option OpenError) → Judges refusal (ends.Refused error)) → TellsConf conf (ends.Refused error) → TellsRow conf (ends.Refused error) → Serves conf (Some path) plan a b d d heard o o (ends.Refused error)
 serves_not conf path plan a b d o error same may differs bad = record { service = λ is. absurd is; judged = λ yes. may (due conf a.stored); differs = differs; bad = bad; kept = λ no yes. inl same }
 
-serves_lack : (conf : Configuration) (store : Option (List ℕ)) (plan : Plan) (a : StoresAt) (d : DoorAt) (o : Outgoing) → Serves conf store plan a a d d o o (ends.Refused why.Memory)
+serves_lack : {heard : Configuration → History → Type 0} (conf : Configuration) (store : Option (List ℕ)) (plan : Plan) (a : StoresAt) (d : DoorAt) (o : Outgoing) → Serves conf store plan a a d d heard o o (ends.Refused why.Memory)
 serves_lack conf None plan a d o = record { service = λ is. absurd is; judged = (tt, λ e. cc); differs = λ x y e. cc; bad = λ x e. cc; kept = λ no yes. inl refl }
 serves_lack conf (Some path) plan a d o = record { service = λ is. absurd is; judged = λ yes. tt; differs = λ x y e. cc; bad = λ x e. cc; kept = λ no yes. inl refl }
 
 -- memory was wanting for the words
-pub does_lack : (asked : Option Serving) (a : StoresAt) (d : DoorAt) (o : Outgoing) → DoesServe asked a a d d o o Memory
+pub does_lack : {heard : Configuration → History → Type 0} (asked : Option Serving) (a : StoresAt) (d : DoorAt) (o : Outgoing) → DoesServe asked a a d d heard o o Memory
 does_lack None a d o = inr refl
 does_lack (Some s) a d o = (ends.Refused why.Memory, refl, serves_lack s.conf s.store _ a d o)
 
-pub does_usage : (asked : Option Serving) (a : StoresAt) (d : DoorAt) (o : Outgoing) → asked ≡ None → DoesServe asked a a d d o o Usage
+pub does_usage : {heard : Configuration → History → Type 0} (asked : Option Serving) (a : StoresAt) (d : DoorAt) (o : Outgoing) → asked ≡ None → DoesServe asked a a d d heard o o Usage
 does_usage None a d o e = inl refl
 does_usage (Some s) a d o e = cc
 
@@ -149,8 +149,8 @@ refused_of ends.DoorFault u = absurd u
 refused_of ends.Memory u = absurd u
 refused_of (ends.Refused error) u = (error, refl)
 
-write_rose : (plan : Plan) (opens left : History → Type 0) (d e : DoorAt) (o p : Outgoing) (end : ServiceEnd) → end ≡ ends.WriteFault
-    → Service plan opens left d e o p end → Rose o.faults p.faults
+write_rose : {heard : History → Type 0} (plan : Plan) (opens left : History → Type 0) (d e : DoorAt) (o p : Outgoing) (end : ServiceEnd) → end ≡ ends.WriteFault
+    → Service plan opens left heard d e o p end → Rose o.faults p.faults
 write_rose plan opens left d e o p ends.WriteFault is s = s.told.wrote.failed
 write_rose plan opens left d e o p ends.Done is s = cc
 write_rose plan opens left d e o p ends.DoorFault is s = cc
@@ -166,20 +166,20 @@ is_opened (ends.Refused error) (inl e) = cc
 is_opened (ends.Refused error) (inr e) = cc
 
 -- the causes of faults
-pub serves_write : (conf : Configuration) (store : Option (List ℕ)) (plan : Plan) (a b : StoresAt) (d e : DoorAt) (o p : Outgoing) (end : ServiceEnd) → Serves conf store plan a b d e o p end
+pub serves_write : {heard : Configuration → History → Type 0} (conf : Configuration) (store : Option (List ℕ)) (plan : Plan) (a b : StoresAt) (d e : DoorAt) (o p : Outgoing) (end : ServiceEnd) → Serves conf store plan a b d e heard o p end
     → status_of_service end ≡ WriteFault → Rose o.faults p.faults
 serves_write conf store plan a b d e o p end x is =
     let at = end_of_write end is in
     write_rose plan _ _ d e o p end at (x.service (is_opened end (inl at)))
 
-pub serves_door : (conf : Configuration) (store : Option (List ℕ)) (plan : Plan) (a b : StoresAt) (d e : DoorAt) (o p : Outgoing) (end : ServiceEnd) → Serves conf store plan a b d e o p end
+pub serves_door : {heard : Configuration → History → Type 0} (conf : Configuration) (store : Option (List ℕ)) (plan : Plan) (a b : StoresAt) (d e : DoorAt) (o p : Outgoing) (end : ServiceEnd) → Serves conf store plan a b d e heard o p end
     → status_of_service end ≡ DoorFault → Rose d.faults e.faults
 serves_door conf store plan a b d e o p end x is =
     let at = end_of_door end is in
     (x.service (is_opened end (inr at))).told.fault at
 
-no_write : (plan : Plan) (opens left : History → Type 0) (d e : DoorAt) (o p : Outgoing) (end : ServiceEnd) → HasRoom plan.port o.sure
-    → end ≡ ends.WriteFault → Service plan opens left d e o p end → ⊥
+no_write : {heard : History → Type 0} (plan : Plan) (opens left : History → Type 0) (d e : DoorAt) (o p : Outgoing) (end : ServiceEnd) → HasRoom plan.port o.sure
+    → end ≡ ends.WriteFault → Service plan opens left heard d e o p end → ⊥
 no_write plan opens left d e o p ends.WriteFault room is s =
     let few = s.told.few in
     let bounded = s.bounded in
@@ -208,7 +208,7 @@ completes (ends.Refused (why.KeptRow row)) j door store write = cc j
 completes (ends.Refused why.Place) j door store write = inr (inr refl)
 
 -- where nothing fails, and an opening accepts the store, all is served, or memory or a reader's place is wanting
-pub serves_all : (conf : Configuration) (store : Option (List ℕ)) (plan : Plan) (a b : StoresAt) (d e : DoorAt) (o p : Outgoing) (end : ServiceEnd) → Serves conf store plan a b d e o p end
+pub serves_all : {heard : Configuration → History → Type 0} (conf : Configuration) (store : Option (List ℕ)) (plan : Plan) (a b : StoresAt) (d e : DoorAt) (o p : Outgoing) (end : ServiceEnd) → Serves conf store plan a b d e heard o p end
     → Accepts store conf a.stored → HasRoom plan.port o.sure → (end ≡ ends.DoorFault → ⊥) → (end ≡ ends.Refused why.Store → ⊥)
     → (status_of_service end ≡ Done) ⊎ ((status_of_service end ≡ Memory) ⊎ (status_of_service end ≡ NoPlace))
 serves_all conf store plan a b d e o p end x taken room door fault =

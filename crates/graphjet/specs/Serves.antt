@@ -3,6 +3,7 @@ use Rattle.std.specs.Prelude.{◌≡◌, ◌⊎◌, ℕ, IsTrue, List, ◌++◌,
 use Rattle.gj_base.specs.Causes.{Rose}
 use Rattle.gj_base.specs.Configuration.{Configuration}
 use Rattle.gj_base.specs.Kept.{Kept}
+use Rattle.gj_base.specs.declared.history.History.{History}
 use Rattle.gj_keep.specs.Openings.{due}
 use Rattle.gj_keep.specs.declared.opening.OpenError.{OpenError}
 use Rattle.gj_keep.specs.declared.opening.OpenError.TheVariants as why
@@ -40,18 +41,18 @@ IsServable None conf stored end = Judges None end × (end ≡ ends.Refused why.S
 IsServable (Some path) conf stored end = IsTrue stored.tells → Judges (due conf stored) end
 
 -- a service over a window that a store keeps or none
-pub record Serves (conf : Configuration) (store : Option (List ℕ)) (plan : Plan) (a b : StoresAt) (d e : DoorAt) (old new : Outgoing) (end : ServiceEnd) : Type 0 where
-  pub service : IsOpened end → Service plan (Opens store a.stored) (Leaves store conf b.stored) d e old new end
+pub record Serves (conf : Configuration) (store : Option (List ℕ)) (plan : Plan) (a b : StoresAt) (d e : DoorAt) (heard : Configuration → History → Type 0) (old new : Outgoing) (end : ServiceEnd) : Type 0 where
+  pub service : IsOpened end → Service plan (Opens store a.stored) (Leaves store conf b.stored) (heard conf) d e old new end
   pub judged : IsServable store conf a.stored end
   pub differs : TellsConf conf end
   pub bad : TellsRow conf end
   pub kept : IsUnserved end → IsKept conf a.stored b.stored
 
 -- a service did what was asked for, or there were no such words
-abbrev pub DoesServe : Option Serving → StoresAt → StoresAt → DoorAt → DoorAt → Outgoing → Outgoing → RunStatus → Type 0
-DoesServe None a b d e old new status = (status ≡ Usage) ⊎ (status ≡ Memory)
-DoesServe (Some s) a b d e old new status =
-    (end : ServiceEnd) × (status ≡ status_of_service end) × Serves s.conf s.store (plan_of s) a b d e old new end
+abbrev pub DoesServe : Option Serving → StoresAt → StoresAt → DoorAt → DoorAt → (Configuration → History → Type 0) → Outgoing → Outgoing → RunStatus → Type 0
+DoesServe None a b d e heard old new status = (status ≡ Usage) ⊎ (status ≡ Memory)
+DoesServe (Some s) a b d e heard old new status =
+    (end : ServiceEnd) × (status ≡ status_of_service end) × Serves s.conf s.store (plan_of s) a b d e heard old new end
 
 -- an opening of a store that tells its rows accepts it; without a store there is none to accept
 abbrev pub Accepts : Option (List ℕ) → Configuration → Kept → Type 0
@@ -74,9 +75,9 @@ IsUntaken status = IsTurnedAway status
 
 -- a service did what was asked for and told its status: the line that says why was written, or a beginning of it where a
 -- write failed
-pub record ObeysServe (asked : Option Serving) (a b : StoresAt) (d e : DoorAt) (out_old out_new err_old err_new : Outgoing) (code : ℕ) : Type 0 where
+pub record ObeysServe (asked : Option Serving) (a b : StoresAt) (d e : DoorAt) (heard : Configuration → History → Type 0) (out_old out_new err_old err_new : Outgoing) (code : ℕ) : Type 0 where
   pub status : RunStatus
   pub code_is : code ≡ code_of status
-  pub does : DoesServe asked a b d e out_old out_new status
+  pub does : DoesServe asked a b d e heard out_old out_new status
   pub part : IsTrue err_old.tells → (k : ℕ) × (err_new.written ≡ err_old.written ++ take k (line_of status))
   pub whole : IsTrue err_old.tells → (Rose err_old.faults err_new.faults → ⊥) → err_new.written ≡ err_old.written ++ line_of status

@@ -1,8 +1,8 @@
 //! Services over a door in memory.
-ghost use Rattle.std.specs.Prelude.{◌≡◌, ◌<◌, All, IsTrue, IfOk};
+ghost use Rattle.std.specs.Prelude.{◌≡◌, ◌<◌, [], All, IsTrue, IfOk};
 ghost use Rattle.gj_keep.specs.MemoryHomes.{is_home};
 ghost use Rattle.gj_serve.specs.Fresh.{IsFreshLink};
-ghost use Rattle.gj_serve.specs.MemoryDoors.{handed_by, back_at, nones_of, entered_by};
+ghost use Rattle.gj_serve.specs.MemoryDoors.{handed_by, back_at, nones_of, entered_by, given_to};
 
 use crate::serving::{Ended, run_serve};
 use crate::store_tests::{ONE_FAVORITE, STATS, over, stores_of};
@@ -27,7 +27,7 @@ fn link_over(alloc: Global, input: Vec<u8>, fails: u64) -> Result<MemoryLink, Fa
 
 /// A door of two links with this input, whose calls with these numbers fail.
 fn door_of(alloc: Global, input: &[u8], fails: Vec<u64>) -> Result<MemoryDoor, Fail>
-    ensures { IfOk result (λ d. (handed_by d ≡ 0) × (back_at d ≡ 0) × (nones_of d ≡ 0) × (entered_by d ≡ 0)) }
+    ensures { IfOk result (λ d. (handed_by d ≡ 0) × (back_at d ≡ 0) × (nones_of d ≡ 0) × (entered_by d ≡ 0) × (given_to d ≡ [])) }
 {
     let mut links = Vec::with_capacity(alloc, 2)?;
     let first = link_over(alloc, input.to_vec(alloc)?, 0)?;
@@ -53,7 +53,7 @@ fn served<R: Threads + Wait + Copy + Drop + Send + Sync>(
     door: MemoryDoor,
     stores: &mut MemoryKeepers,
 ) -> Result<Left, Fail>
-    requires fresh { (handed_by door ≡ 0) × (back_at door ≡ 0) × (nones_of door ≡ 0) × (entered_by door ≡ 0) }
+    requires fresh { (handed_by door ≡ 0) × (back_at door ≡ 0) × (nones_of door ≡ 0) × (entered_by door ≡ 0) × (given_to door ≡ []) }
     requires home { IsTrue (is_home stores.old) }
     ensures { IsTrue (is_home stores.new) }
 {

@@ -1,8 +1,9 @@
 //! The service of connections, over a window that a store keeps or none.
-ghost use Rattle.std.specs.Prelude.{◌≡◌, ◌≢◌, ◌⊎◌, ℕ, ◌+◌, ◌^◌, ◌<◌, ◌≤◌, ◌++◌, IsTrue, List, Option, Some, None, map, option_map, string_bytes, take};
+ghost use Rattle.std.specs.Prelude.{◌≡◌, ◌≢◌, ◌⊎◌, ℕ, ◌+◌, ◌^◌, ◌<◌, ◌≤◌, ◌++◌, [], IsTrue, List, Option, Some, None, map, option_map, string_bytes, take};
 ghost use Rattle.gj_base.specs.Causes.{Rose};
 ghost use Rattle.gj_keep.specs.declared.opening.OpenError.{OpenError};
 ghost use Rattle.gj_keep.specs.declared.opening.OpenError.TheVariants as why;
+ghost use Rattle.gj_serve.specs.Given.{AreServed};
 ghost use Rattle.gj_service.specs.Services.{HasRoom, IsPlan, IsUnserved, door_at};
 ghost use Rattle.gj_service.specs.declared.end.ServiceEnd.TheVariants as ends;
 ghost use Rattle.gj_base.specs.Streams.{outgoing};
@@ -88,12 +89,13 @@ fn serve_bare<R: Threads + Wait + Copy + Drop + Send + Sync, D: Door + Send, O: 
     out: &mut O,
     grants: &mut Grants,
 ) -> Closed<D>
-    requires fresh { (D.handed door ≡ 0) × (D.back door ≡ 0) × (D.nones door ≡ 0) × (D.entered door ≡ 0) }
+    requires fresh { (D.handed door ≡ 0) × (D.back door ≡ 0) × (D.nones door ≡ 0) × (D.entered door ≡ 0) × (D.given door ≡ []) }
     requires plan { IsPlan plan }
     requires grants { grants.old < 2 ^ 40 }
     ensures does { (a : StoresAt) → Serves conf None plan a a
         (door_at (D.handed door) (D.back door) (D.nones door) (D.faults door) (D.entered door))
         (door_at (D.handed result.door) (D.back result.door) (D.nones result.door) (D.faults result.door) (D.entered result.door))
+        (λ conf h. AreServed D.Link.tells D.Link.stream D.Link.read_faults D.Link.reads D.Link.written D.Link.write_faults conf h (IsTrue (D.tells result.door)) (D.back result.door) (D.given result.door))
         (outgoing (O.tells out.old) (O.written out.old) (O.faults out.old) (O.sure out.old))
         (outgoing (O.tells out.new) (O.written out.new) (O.faults out.new) (O.sure out.new)) result.end }
     ensures place { result.end ≡ ends.Refused why.Place → grants.new ≡ grants.old + 1 }
@@ -126,12 +128,13 @@ fn serve_stored<R: Threads + Wait + Copy + Drop + Send + Sync, D: Door + Send, O
 where
     P::Kept: Drop,
     requires home { IsTrue (P.home stores.old) }
-    requires fresh { (D.handed door ≡ 0) × (D.back door ≡ 0) × (D.nones door ≡ 0) × (D.entered door ≡ 0) }
+    requires fresh { (D.handed door ≡ 0) × (D.back door ≡ 0) × (D.nones door ≡ 0) × (D.entered door ≡ 0) × (D.given door ≡ []) }
     requires plan { IsPlan plan }
     requires grants { grants.old < 2 ^ 40 }
     ensures does { Serves conf (Some path.now) plan (stores_at (P.stored stores.old) (P.faults stores.old) (P.steady stores.old)) (stores_at (P.stored stores.new) (P.faults stores.new) (P.steady stores.new))
         (door_at (D.handed door) (D.back door) (D.nones door) (D.faults door) (D.entered door))
         (door_at (D.handed result.door) (D.back result.door) (D.nones result.door) (D.faults result.door) (D.entered result.door))
+        (λ conf h. AreServed D.Link.tells D.Link.stream D.Link.read_faults D.Link.reads D.Link.written D.Link.write_faults conf h (IsTrue (D.tells result.door)) (D.back result.door) (D.given result.door))
         (outgoing (O.tells out.old) (O.written out.old) (O.faults out.old) (O.sure out.old))
         (outgoing (O.tells out.new) (O.written out.new) (O.faults out.new) (O.sure out.new)) result.end }
     ensures store { result.end ≡ ends.Refused why.Store → Rose (P.faults stores.old) (P.faults stores.new) }
@@ -177,12 +180,13 @@ where
     P::Kept: Drop,
     requires service { IsService service.now }
     requires home { IsTrue (P.home stores.old) }
-    requires fresh { (D.handed door ≡ 0) × (D.back door ≡ 0) × (D.nones door ≡ 0) × (D.entered door ≡ 0) }
+    requires fresh { (D.handed door ≡ 0) × (D.back door ≡ 0) × (D.nones door ≡ 0) × (D.entered door ≡ 0) × (D.given door ≡ []) }
     requires grants { grants.old < 2 ^ 40 }
     ensures does { Serves (serving_by service.now).conf (serving_by service.now).store (plan_of (serving_by service.now))
         (stores_at (P.stored stores.old) (P.faults stores.old) (P.steady stores.old)) (stores_at (P.stored stores.new) (P.faults stores.new) (P.steady stores.new))
         (door_at (D.handed door) (D.back door) (D.nones door) (D.faults door) (D.entered door))
         (door_at (D.handed result.door) (D.back result.door) (D.nones result.door) (D.faults result.door) (D.entered result.door))
+        (λ conf h. AreServed D.Link.tells D.Link.stream D.Link.read_faults D.Link.reads D.Link.written D.Link.write_faults conf h (IsTrue (D.tells result.door)) (D.back result.door) (D.given result.door))
         (outgoing (O.tells out.old) (O.written out.old) (O.faults out.old) (O.sure out.old))
         (outgoing (O.tells out.new) (O.written out.new) (O.faults out.new) (O.sure out.new)) result.end }
     ensures store { result.end ≡ ends.Refused why.Store → Rose (P.faults stores.old) (P.faults stores.new) }
@@ -223,12 +227,13 @@ fn obey<R: Threads + Wait + Copy + Drop + Send + Sync, D: Door + Send, O: Sink, 
 where
     P::Kept: Drop,
     requires home { IsTrue (P.home stores.old) }
-    requires fresh { (D.handed door ≡ 0) × (D.back door ≡ 0) × (D.nones door ≡ 0) × (D.entered door ≡ 0) }
+    requires fresh { (D.handed door ≡ 0) × (D.back door ≡ 0) × (D.nones door ≡ 0) × (D.entered door ≡ 0) × (D.given door ≡ []) }
     requires grants { grants.old < 2 ^ 40 }
     ensures does { DoesServe (service_of (map (λ w. string_bytes w) words.now))
         (stores_at (P.stored stores.old) (P.faults stores.old) (P.steady stores.old)) (stores_at (P.stored stores.new) (P.faults stores.new) (P.steady stores.new))
         (door_at (D.handed door) (D.back door) (D.nones door) (D.faults door) (D.entered door))
         (door_at (D.handed result.door) (D.back result.door) (D.nones result.door) (D.faults result.door) (D.entered result.door))
+        (λ conf h. AreServed D.Link.tells D.Link.stream D.Link.read_faults D.Link.reads D.Link.written D.Link.write_faults conf h (IsTrue (D.tells result.door)) (D.back result.door) (D.given result.door))
         (outgoing (O.tells out.old) (O.written out.old) (O.faults out.old) (O.sure out.old))
         (outgoing (O.tells out.new) (O.written out.new) (O.faults out.new) (O.sure out.new)) result.status }
     ensures usage { result.status ≡ statuses.Usage → service_of (map (λ w. string_bytes w) words.now) ≡ None }
@@ -295,14 +300,16 @@ pub fn run_serve<
 where
     P::Kept: Drop,
     requires home { IsTrue (P.home stores.old) }
-    requires fresh { (D.handed door ≡ 0) × (D.back door ≡ 0) × (D.nones door ≡ 0) × (D.entered door ≡ 0) }
+    requires fresh { (D.handed door ≡ 0) × (D.back door ≡ 0) × (D.nones door ≡ 0) × (D.entered door ≡ 0) × (D.given door ≡ []) }
     requires grants { grants.old < 2 ^ 40 }
 
-    // What was asked for was done, and told on `err`; each link that was handed out was served and came back.
+    // What was asked for was done, and told on `err`; each link that was handed out was served and came back, and its session
+    // was answered over beginnings of the last history.
     ensures obeys { ObeysServe (service_of (map (λ w. string_bytes w) words.now))
         (stores_at (P.stored stores.old) (P.faults stores.old) (P.steady stores.old)) (stores_at (P.stored stores.new) (P.faults stores.new) (P.steady stores.new))
         (door_at (D.handed door) (D.back door) (D.nones door) (D.faults door) (D.entered door))
         (door_at (D.handed result.door) (D.back result.door) (D.nones result.door) (D.faults result.door) (D.entered result.door))
+        (λ conf h. AreServed D.Link.tells D.Link.stream D.Link.read_faults D.Link.reads D.Link.written D.Link.write_faults conf h (IsTrue (D.tells result.door)) (D.back result.door) (D.given result.door))
         (outgoing (O.tells out.old) (O.written out.old) (O.faults out.old) (O.sure out.old))
         (outgoing (O.tells out.new) (O.written out.new) (O.faults out.new) (O.sure out.new))
         (outgoing (E.tells err.old) (E.written err.old) (E.faults err.old) (E.sure err.old))

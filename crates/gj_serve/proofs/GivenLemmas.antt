@@ -1,0 +1,48 @@
+-- Sessions that are done, beside a history that grows.
+use Rattle.std.proofs.Common.{◌≡◌, ℕ, ◌+◌, Bool, List, [], ◌∷◌, ◌++◌, length, slice_index_or, ap, arith, length-append}
+use Rattle.std.proofs.lemmas.List.Elements.{All-push}
+use Rattle.gj_base.specs.Configuration.{Configuration}
+use Rattle.gj_base.specs.History.{Begins}
+use Rattle.gj_base.specs.Stream.{Reading}
+use Rattle.gj_base.specs.declared.history.History.{History}
+use Rattle.gj_publish.proofs.Histories.{begins_trans}
+use Rattle.gj_serve.specs.Given.{AreServed, HasServed}
+use Rattle.gj_session.specs.declared.done.Done.{Done}
+
+-- what a seat has seen begins each later history too
+served_later : {L : Type 0} (tells : L → Bool) (stream : L → Reading) (read_faults reads : L → ℕ) (written : L → List ℕ) (write_faults : L → ℕ) (conf : Configuration) (a b : History) (done : Done L)
+    → Begins a b → HasServed tells stream read_faults reads written write_faults conf a done → HasServed tells stream read_faults reads written write_faults conf b done
+served_later tells stream read_faults reads written write_faults conf a b done later x = record {
+  handed = x.handed;
+  fresh = x.fresh;
+  before = x.before;
+  after = x.after;
+  ran = x.ran;
+  entered = x.entered;
+  begins = begins_trans x.after.front a b x.begins later;
+}
+
+-- the same for all of them
+pub are_served_later : {L : Type 0} (tells : L → Bool) (stream : L → Reading) (read_faults reads : L → ℕ) (written : L → List ℕ) (write_faults : L → ℕ) (conf : Configuration) (a b : History) (told : Type 0) (back : ℕ) (given : List (Done L))
+    → Begins a b → AreServed tells stream read_faults reads written write_faults conf a told back given → AreServed tells stream read_faults reads written write_faults conf b told back given
+are_served_later tells stream read_faults reads written write_faults conf a b told back given later all = λ yes.
+    let here = all yes in
+    (here.0, λ k d lt. served_later tells stream read_faults reads written write_faults conf a b (slice_index_or given k d) later (here.1 k d lt))
+
+-- one more came back, and the history grew
+pub are_served_more : {L : Type 0} (tells : L → Bool) (stream : L → Reading) (read_faults reads : L → ℕ) (written : L → List ℕ) (write_faults : L → ℕ) (conf : Configuration) (a s b : History) (told : Type 0) (back : ℕ) (given : List (Done L)) (done : Done L)
+    → Begins a b → Begins s b
+    → AreServed tells stream read_faults reads written write_faults conf a told back given
+    → HasServed tells stream read_faults reads written write_faults conf s done
+    → AreServed tells stream read_faults reads written write_faults conf b told (back + 1) (given ++ done ∷ [])
+are_served_more tells stream read_faults reads written write_faults conf a s b told back given done later seen all one = λ yes.
+    let here = are_served_later tells stream read_faults reads written write_faults conf a b told back given later all yes in
+    (omega (arith, here.0, length-append given (done ∷ [])),
+      All-push (HasServed tells stream read_faults reads written write_faults conf b) given done here.1
+        (served_later tells stream read_faults reads written write_faults conf s b done seen one))
+
+-- none came back yet
+pub none_served : {L : Type 0} (tells : L → Bool) (stream : L → Reading) (read_faults reads : L → ℕ) (written : L → List ℕ) (write_faults : L → ℕ) (conf : Configuration) (h : History) (told : Type 0) (back : ℕ) (given : List (Done L))
+    → given ≡ [] → back ≡ 0 → AreServed tells stream read_faults reads written write_faults conf h told back given
+none_served tells stream read_faults reads written write_faults conf h told back given none zero = λ yes.
+    (omega (arith, ap length none, zero), λ k d lt. absurd (omega (arith, ap length none, lt)))
