@@ -66,14 +66,11 @@ cells_are a b xs ys p q = cc (p, q)
 nil_kept : (cs : List Cell) (log : List (ℕ × List Entry)) → IsKept cs log → IsKept cs (log ++ [])
 nil_kept cs log k = subst (IsKept cs) (sym (append-nil log)) k
 
-pub reserves_goes : (log v : List (ℕ × List Entry)) (m old : ℕ) → length v ≡ old → IsPrefix v log
-    → (b : Bool) → (length log + m == old) ≡ b
+pub reserves_goes : (log v : List (ℕ × List Entry)) (m old : ℕ) → (b : Bool) → (length log + m == old) ≡ b
     → Goes IsKept shown moved 0 (v, (no_nib, None)) (λ n. either (n == old) (old + 1) n) (Reserves (step 0 old (old + 1) (0, [])) (v, (no_nib, None))) (cells_of (length log) m) log
-reserves_goes log v m old len pre true is =
+reserves_goes log v m old true is =
     let n : ℕ = length log in
     let here : n + m ≡ old = grind (arith, nat_tests) in
-    let low : length v ≤ n = prefix_length v log pre in
-    let same : v ≡ log = prefix_whole v log pre (omega arith) in
     let up : either (n + m == old) (old + 1) (n + m) ≡ n + suc m = rw is (omega arith) in
     let long : length (row n m) ≡ old = row_length n m ∙ here in (
       adds,
@@ -82,9 +79,9 @@ reserves_goes log v m old len pre true is =
       tt,
       nil_kept _ log (record { waiting = suc m; words = cells_are _ _ _ _ up (row_more n m) }),
       inl (refl, refl),
-      (λ h. (append-nil log ∙ sym same, ap (λ (k : ℕ). nib may_make (suc (suc k)) 0) long)),
+      (λ h. ap (λ (k : ℕ). nib may_make (suc (suc k)) 0) long),
     )
-reserves_goes log v m old len pre false is =
+reserves_goes log v m old false is =
     let n : ℕ = length log in
     let apart : n + m ≢ old = grind (arith, nat_tests) in
     let up : either (n + m == old) (old + 1) (n + m) ≡ n + m = rw is refl in (
@@ -97,12 +94,12 @@ reserves_goes log v m old len pre false is =
       (λ h. absurd (apart h)),
     )
 
--- whatever the book is, the exchange makes room behind all that was seen, or finds another number
-pub reserves_moves : (v : List (ℕ × List Entry)) (old : ℕ) → length v ≡ old
+-- whatever the book is, the exchange makes room behind as many cells as expected, or finds another number
+pub reserves_moves : (v : List (ℕ × List Entry)) (old : ℕ)
     → Moves IsKept shown moved 0 (v, (no_nib, None)) (λ n. either (n == old) (old + 1) n) (Reserves (step 0 old (old + 1) (0, [])) (v, (no_nib, None)))
-reserves_moves v old len cs log kept pre off =
+reserves_moves v old cs log kept pre off =
     let P : List Cell → Type 0 = λ c. (0 < length c) × ((cell c 0).1 ≡ true) × Goes IsKept shown moved 0 (v, (no_nib, None)) (λ n. either (n == old) (old + 1) n) (Reserves (step 0 old (old + 1) (0, [])) (v, (no_nib, None))) c log in
-    subst P (sym kept.words) (omega arith, refl, reserves_goes log v kept.waiting old len pre (length log + kept.waiting == old) refl)
+    subst P (sym kept.words) (omega arith, refl, reserves_goes log v kept.waiting old (length log + kept.waiting == old) refl)
 
 pub adds_goes : (log v : List (ℕ × List Entry)) (e : ℕ × List Entry) (n m : ℕ) → length v ≡ n → n ≡ length log → IsPrefix v log → n < length log + m
     → Goes IsKept shown moved 0 (v, (next_nib n, None)) (λ x. either (x == 0) 0 x) (Adds (step 0 0 0 e) (v, (next_nib n, None))) (cells_of (length log) m) log

@@ -20,9 +20,9 @@ head_of b = record { tracked = true; key = 0; book = b }
 abbrev pub next_nib : ℕ → Nib
 next_nib n = nib may_write (suc (suc n)) 0
 
--- where the number found is the one expected, nothing was added beyond what had been seen, and the next cell may be made
+-- where the number found is the one expected, the next cell may be made
 abbrev pub Reserves : Step (ℕ × List Entry) → View (ℕ × List Entry) ℕ → ℕ → View (ℕ × List Entry) ℕ → Type 0
-Reserves s v found w = found ≡ s.old → (w.0 ≡ v.0) × (w.1.0 ≡ nib may_make (suc (suc s.old)) 0)
+Reserves s v found w = found ≡ s.old → w.1.0 ≡ nib may_make (suc (suc s.old)) 0
 
 -- the lot was added to all that had been seen
 abbrev pub Adds : Step (ℕ × List Entry) → View (ℕ × List Entry) ℕ → ℕ → View (ℕ × List Entry) ℕ → Type 0

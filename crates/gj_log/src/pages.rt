@@ -1,12 +1,14 @@
 //! A book of lots, with the right to add more.
-ghost use Rattle.std.specs.Prelude.{◌≡◌, ◌+◌, ◌≤◌, ◌++◌, ◌∷◌, [], true, false, None, length};
+ghost use Rattle.std.specs.Prelude.{◌≡◌, ◌+◌, ◌≤◌, ◌++◌, ◌∷◌, [], true, false, None, length, IfSome};
 ghost use mathlib.Core.List.{IsPrefix};
+ghost use Rattle.gj_log.specs.Rules.{head_of, next_nib};
 
 use crate::law::{Add, Confirm, Law, Nothing, Reserve};
 use crate::naming::Opening;
 use gj_base::Entry;
 use logbook::{Offer, Pen, Plain, Seen, Start, Word};
 use std::marker::{Model, PhantomData};
+use std::mem::swap;
 
 /// A book with an empty log, which has no name yet. Contracts see which book it is.
 #[derive(Drop)]
@@ -39,36 +41,42 @@ impl BlankBook {
     }
 
     // The book under a name. Nothing was added.
-    pub(crate) fn named<J: Opening>(self) -> Pages<J>
+    pub(crate) fn named<J: Opening>(self) -> Option<Pages<J>>
         requires { self ≡ J.book }
-        ensures { result ≡ ([], false) }
+        ensures { IfSome result (λ pages. pages ≡ ([], false)) }
     {
         let BlankBook { head, seen } = self;
-        let pen = seen.no_pen();
-        Pages {
+        let pen = room(&head, &seen, 0)?;
+        let spare = seen.no_pen();
+        Some(Pages {
             lots: 0,
             ready: false,
             head,
             pen,
+            spare,
             seen,
             of: PhantomData,
-        }
+        })
     }
 }
 
 /// The lots, with the right to add more. Contracts see the lots, and whether there is room for one.
+///
+/// The pen for the next lot is held at all times, so that no lot is added elsewhere. Where there is room, the spare is the
+/// pen for the lot after it.
 #[derive(Drop)]
 pub struct Pages<J: Opening> {
     lots: u64,
     ready: bool,
     head: Word<(u64, [Entry; 0]), u64, Law>,
     pen: Pen,
+    spare: Pen,
     seen: Seen<(u64, [Entry; 0]), u64, Law>,
     of: PhantomData<J>,
 }
 
 impl<J: Opening> Model for Pages<J> {
-    ghost use Rattle.std.specs.Prelude.{◌≡◌, ◌<◌, ℕ, List, Bool, true, length};
+    ghost use Rattle.std.specs.Prelude.{◌≡◌, ◌<◌, ◌+◌, ℕ, List, Bool, true, length};
     ghost use Rattle.gj_base.specs.declared.item.Entry.{Entry};
     ghost use Rattle.gj_log.specs.Rules.{head_of, next_nib};
 
@@ -76,11 +84,11 @@ impl<J: Opening> Model for Pages<J> {
 
     ghost view = { λ s. (s.seen.log, s.ready) };
 
-    ghost invariant = { λ s. (s.head ≡ head_of J.book) × (s.pen.book ≡ J.book) × (s.seen.book ≡ J.book) × (s.lots ≡ length s.seen.log) × (s.ready ≡ true → (s.pen.nib ≡ next_nib s.lots) × (s.lots < 18446744073709551615)) };
+    ghost invariant = { λ s. (s.head ≡ head_of J.book) × (s.pen.book ≡ J.book) × (s.spare.book ≡ J.book) × (s.seen.book ≡ J.book) × (s.lots ≡ length s.seen.log) × (s.pen.nib ≡ next_nib s.lots) × (s.ready ≡ true → (s.spare.nib ≡ next_nib (s.lots + 1)) × (s.lots < 18446744073709551615)) };
 }
 
 impl<J: Opening> Pages<J> {
-    // Makes room for a lot, and says whether there is room. There is none after 2^64 - 1 lots.
+    // Makes room for a lot, and says whether there is room. There is none after 2^64 - 2 lots.
     pub(crate) fn reserve(&mut self) -> bool
         ensures same { self.new.0 ≡ self.old.0 }
         ensures ready { self.new.1 ≡ result }
@@ -88,26 +96,13 @@ impl<J: Opening> Pages<J> {
         if self.ready {
             return true;
         }
-        let lots = self.lots;
-        if lots == u64::MAX {
+        let Some(next) = self.lots.checked_add(1) else {
             return false;
-        }
-        let mut seen = self.seen.again();
-        let mut offer: Offer<(u64, [Entry; 0]), u64, Law, Nothing> = seen.plain::<
-            Nothing,
-            (),
-            Reserve,
-        >(&());
-        let mut pen = seen.no_pen();
-        let found = self
-            .head
-            .compare_exchange::<Reserve, Nothing>(lots, lots + 1, &mut seen, &mut offer, &mut pen);
-        if found != lots {
+        };
+        let Some(spare) = room(&self.head, &self.seen, next) else {
             return false;
-        }
-        let _word: Word<(u64, [Entry; 0]), u64, Law> = Word::tracked(0, &mut pen);
-        self.seen = seen;
-        self.pen = pen;
+        };
+        self.spare = spare;
         self.ready = true;
         true
     }
@@ -125,13 +120,13 @@ impl<J: Opening> Pages<J> {
         let _ = self
             .head
             .compare_exchange::<Add, Nothing>(0, 0, &mut self.seen, &mut offer, &mut self.pen);
+        swap(&mut self.pen, &mut self.spare);
         self.lots += 1;
         self.ready = false;
     }
 
     // Whoever has the right to the next lot knows that no other was added: what was seen anywhere is a beginning.
     pub(crate) fn confirm(&mut self, other: &Seen<(u64, [Entry; 0]), u64, Law>)
-        requires ready { self.old.1 ≡ true }
         requires book { other.now.book ≡ J.book }
         ensures same { self.new ≡ self.old }
         ensures begins { IsPrefix other.now.log self.new.0 }
@@ -154,4 +149,36 @@ impl<J: Opening> Pages<J> {
     {
         &self.seen
     }
+}
+
+// The right to add the lot with this number, where the head says that there were as many cells. `None` where it says another
+// number, or where none comes after it.
+fn room(
+    head: &Word<(u64, [Entry; 0]), u64, Law>,
+    seen: &Seen<(u64, [Entry; 0]), u64, Law>,
+    number: u64,
+) -> Option<Pen>
+    requires head { head.now ≡ head_of seen.now.book }
+    ensures { IfSome result (λ pen. (pen.book ≡ seen.now.book) × (pen.nib ≡ next_nib number)) }
+{
+    if number == u64::MAX {
+        return None;
+    }
+    let mut met = seen.again();
+    let mut offer: Offer<(u64, [Entry; 0]), u64, Law, Nothing> = met.plain::<Nothing, (), Reserve>(
+        &(),
+    );
+    let mut pen = met.no_pen();
+    let found = head.compare_exchange::<Reserve, Nothing>(
+        number,
+        number + 1,
+        &mut met,
+        &mut offer,
+        &mut pen,
+    );
+    if found != number {
+        return None;
+    }
+    let _word: Word<(u64, [Entry; 0]), u64, Law> = Word::tracked(0, &mut pen);
+    Some(pen)
 }

@@ -38,7 +38,7 @@ impl<J: Opening> Scribe<J> {
         requires length { (length ≡ length_of (opened rows.now.value.items)) × (length ≤ 2 ^ 48) }
         ensures { IfSome result (λ s. s ≡ record { opening = opened rows.now.value.items; history = opened rows.now.value.items; ready = false }) }
     {
-        let mut pages: Pages<J> = book.named::<J>();
+        let mut pages: Pages<J> = book.named::<J>()?;
         if !pages.reserve() {
             return None;
         }
@@ -86,7 +86,6 @@ impl<J: Opening> Scribe<J> {
 
     /// Confirms that the history begins with a front, as each front of its opening does.
     pub fn confirm(&mut self, front: &Front<J>)
-        requires ready { self.old.ready ≡ true }
         ensures same { self.new ≡ self.old }
         ensures begins { Begins front.now self.new.history }
     {
