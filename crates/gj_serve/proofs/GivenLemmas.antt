@@ -1,11 +1,16 @@
 -- Sessions that are done, beside a history that grows.
-use Rattle.std.proofs.Common.{◌≡◌, ℕ, ◌+◌, Bool, List, [], ◌∷◌, ◌++◌, length, slice_index_or, ap, arith, length-append}
+use Rattle.std.proofs.Common.{◌≡◌, ℕ, ◌+◌, Bool, IsTrue, List, [], ◌∷◌, ◌++◌, length, slice_index_or, ap, sym, subst, arith, length-append}
 use Rattle.std.proofs.lemmas.List.Elements.{All-push}
 use Rattle.gj_base.specs.Configuration.{Configuration}
 use Rattle.gj_base.specs.History.{Begins}
 use Rattle.gj_base.specs.Stream.{Reading}
 use Rattle.gj_base.specs.declared.history.History.{History}
-use Rattle.gj_publish.proofs.Histories.{begins_trans}
+use Rattle.gj_base.specs.Streams.{incoming, outgoing}
+use Rattle.gj_publish.specs.Seats.{SeatView}
+use Rattle.gj_publish.proofs.Histories.{begins_self, begins_trans}
+use Rattle.gj_serve.specs.Doors.{IsFresh}
+use Rattle.gj_session.specs.SeatRuns.{SeatRan}
+use Rattle.gj_session.specs.Sessions.{Replayed}
 use Rattle.gj_serve.specs.Given.{AreServed, HasServed}
 use Rattle.gj_session.specs.declared.done.Done.{Done}
 
@@ -46,3 +51,29 @@ pub none_served : {L : Type 0} (tells : L → Bool) (stream : L → Reading) (re
     → given ≡ [] → back ≡ 0 → AreServed tells stream read_faults reads written write_faults conf h told back given
 none_served tells stream read_faults reads written write_faults conf h told back given none zero = λ yes.
     (omega (arith, ap length none, zero), λ k d lt. absurd (omega (arith, ap length none, lt)))
+
+-- a session over a fresh link
+pub has_served : {L : Type 0} (tells : L → Bool) (stream : L → Reading) (read_faults reads : L → ℕ) (written : L → List ℕ) (write_faults sure : L → ℕ) (conf : Configuration) (before after : SeatView) (link : L) (done : Done L)
+    → IsFresh (IsTrue (tells link)) (stream link) (written link) → tells done.link ≡ tells link
+    → Replayed (SeatRan conf before after)
+      (incoming (tells link) (stream link) (read_faults link) (reads link))
+      (incoming (tells done.link) (stream done.link) (read_faults done.link) (reads done.link))
+      (outgoing (tells link) (written link) (write_faults link) (sure link))
+      (outgoing (tells done.link) (written done.link) (write_faults done.link) (sure link))
+      1099511627776 done.end
+    → after.posted ≡ before.posted + done.entered
+    → HasServed tells stream read_faults reads written write_faults conf after.front done
+has_served tells stream read_faults reads written write_faults sure conf before after link done fresh told ran entered = record {
+  handed = record { stream = stream link; read_faults = read_faults link; reads = reads link; written = written link; write_faults = write_faults link; sure = sure link };
+  fresh = subst (λ (t : Bool). IsFresh (IsTrue t) (stream link) (written link)) (sym told) fresh;
+  before = before;
+  after = after;
+  ran = subst (λ (t : Bool). Replayed (SeatRan conf before after)
+      (incoming t (stream link) (read_faults link) (reads link))
+      (incoming (tells done.link) (stream done.link) (read_faults done.link) (reads done.link))
+      (outgoing t (written link) (write_faults link) (sure link))
+      (outgoing (tells done.link) (written done.link) (write_faults done.link) (sure link))
+      1099511627776 done.end) (sym told) ran;
+  entered = entered;
+  begins = begins_self after.front;
+}
