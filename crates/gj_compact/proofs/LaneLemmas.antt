@@ -1,7 +1,7 @@
 -- What a change of one row changes of the lane.
 use Rattle.std.proofs.Common.{◌≡◌, ◌≢◌, ℕ, zero, suc, ◌+◌, ◌-◌, ◌<◌, ◌≤◌, ◌∙◌, List, [], ◌∷◌, ◌++◌, length, map, take, drop, set, get_or, replicate, refl, arith, sym, ap, inl, inr}
 use Rattle.std.proofs.lemmas.Bool.{cases_eq, cases_lt}
-use Rattle.std.proofs.lemmas.List.{length-map, length-set, length-take, length-drop, get_or-map, get_or-set_same, get_or-set_other, map-set, set-get_or, ext_get_or, drop-take, drop-drop, drop-set-lt, drop-set-add, take-set-le, take_more_set, length-append, length-replicate, get_or_default, get_or-replicate, get_or-drop, get_or_append_left, get_or-append_right}
+use Rattle.std.proofs.lemmas.List.{length-map, length-set, length-take, length-drop, get_or-map, get_or-set_same, get_or-set_other, map-set, set-get_or, ext_get_or, drop-take, drop-drop, drop-set-lt, drop-set-add, take-set-le, take_more_set, get_or_default}
 use Rattle.gj_compact.specs.declared.lane.Row.{Row}
 use Rattle.gj_compact.specs.declared.edge.End.{End}
 use Rattle.gj_compact.specs.Lanes.{AreLaid, row_run, row_end, laned, run_of, pushed, popped, noted}

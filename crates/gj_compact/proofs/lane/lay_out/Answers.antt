@@ -1,7 +1,5 @@
-use Rattle.std.proofs.Common.{◌≡◌, ◌≤◌, ℕ, length, map, ap, arith, sym, ◌∙◌}
+use Rattle.std.proofs.Common.{ℕ, arith, sym, ◌∙◌}
 use Rattle.std.specs.List.{sum_by}
-use Rattle.gj_compact.specs.declared.lane.Row.{Row}
-use Rattle.gj_compact.specs.Lanes.{want_of}
 use Rattle.gj_compact.specs.Moves.{len_of}
 use Rattle.gj_compact.proofs.PackLemmas.{packed_dense, packed_wanted, packed_runs, packed_fresh, packed_zero, lens_most}
 use Rattle.gj_compact.proofs.lane.lay_out.Goals as goal

@@ -1,10 +1,7 @@
-use Rattle.std.proofs.Common.{◌≡◌, ◌<◌, ◌≤◌, ℕ, length, take, get_or, ap, arith, sym, ◌∙◌}
-use Rattle.std.specs.List.{sum_by}
+use Rattle.std.proofs.Common.{◌<◌, length, get_or, arith, ◌∙◌}
 use Rattle.std.proofs.lemmas.List.{get_or_default}
 use Rattle.gj_compact.specs.declared.lane.Row.{Row}
-use Rattle.gj_compact.specs.Lanes.{row_end}
-use Rattle.gj_compact.specs.Moves.{len_of}
-use Rattle.gj_compact.proofs.PackLemmas.{packed_none, packed_more}
+use Rattle.gj_compact.proofs.PackLemmas.{packed_more}
 use Rattle.gj_compact.proofs.lane.pack.Goals as goal
 
 pub loop-v-preserved : goal.loop-v-preserved

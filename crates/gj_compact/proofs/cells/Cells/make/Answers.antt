@@ -1,7 +1,6 @@
-use Rattle.std.proofs.Common.{◌≡◌, ℕ, List, ◌≤◌, length, take, replicate, ap, arith, sym, ◌∙◌}
+use Rattle.std.proofs.Common.{◌≡◌, ◌≤◌, length, take, ap, arith, sym, ◌∙◌}
 use Rattle.gj_base.specs.declared.kind.Kind.TheVariants.{Click}
 use Rattle.gj_compact.specs.Cells.{Celled, joined}
-use Rattle.gj_compact.specs.declared.edge.End.{End}
 use Rattle.gj_compact.proofs.CellLemmas.{length-joined, front-joined, front_fits}
 use Rattle.gj_compact.proofs.cells.Cells.make.Goals as goal
 

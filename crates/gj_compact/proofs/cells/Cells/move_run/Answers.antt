@@ -1,7 +1,6 @@
 use Rattle.std.proofs.Common.{◌≡◌, ◌+◌, ℕ, List, length, take, drop, ap, sym, ◌∙◌, arith}
 use Rattle.std.proofs.lemmas.List.{with_items_is}
 use Rattle.gj_base.specs.declared.kind.Kind.{Kind}
-use Rattle.gj_compact.specs.declared.edge.End.{End}
 use Rattle.gj_compact.specs.Cells.{Celled}
 use Rattle.gj_compact.proofs.CellLemmas.{length-joined, run-joined, front-joined, back-joined}
 use Rattle.gj_compact.proofs.cells.Cells.move_run.Goals as goal

@@ -1,4 +1,4 @@
-use Rattle.std.proofs.Common.{List, length, set, ap, ◌∙◌, arith}
+use Rattle.std.proofs.Common.{List, length, ap, ◌∙◌, arith}
 use Rattle.gj_compact.specs.declared.edge.End.{End}
 use Rattle.gj_compact.specs.Cells.{Celled, with_end}
 use Rattle.gj_compact.proofs.CellLemmas.{length-joined, set-joined}
