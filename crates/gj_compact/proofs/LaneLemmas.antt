@@ -1,19 +1,19 @@
 -- What a change of one row changes of the lane.
-use Rattle.std.proofs.Common.{◌≡◌, ℕ, zero, suc, ◌+◌, ◌-◌, ◌<◌, ◌≤◌, ◌∙◌, List, [], ◌∷◌, ◌++◌, length, map, take, drop, set, get_or, replicate, refl, arith, sym, ap, inl, inr}
+use Rattle.std.proofs.Common.{◌≡◌, ◌≢◌, ℕ, zero, suc, ◌+◌, ◌-◌, ◌<◌, ◌≤◌, ◌∙◌, List, [], ◌∷◌, ◌++◌, length, map, take, drop, set, get_or, replicate, refl, arith, sym, ap, inl, inr}
 use Rattle.std.proofs.lemmas.Bool.{cases_eq, cases_lt}
-use Rattle.std.proofs.lemmas.List.{length-map, length-set, length-take, length-drop, get_or-map, get_or-set_same, get_or-set_other, map-set, set-get_or, ext_get_or, drop-take, drop-drop, drop-set-lt, drop-set-add, take-set-le, take_more_set, length-append, length-replicate, get_or_default, get_or-replicate, get_or-drop, get_or_append_left, get_or-append_right}
+use Rattle.std.proofs.lemmas.List.{length-map, length-set, length-take, length-drop, get_or-map, get_or-set_same, get_or-set_other, map-set, set-get_or, ext_get_or, drop-take, drop-drop, drop-set-lt, drop-set-add, take-set-le, take_more_set, get_or_default}
 use Rattle.gj_compact.specs.declared.lane.Row.{Row}
 use Rattle.gj_compact.specs.declared.edge.End.{End}
-use Rattle.gj_compact.specs.Lanes.{AreLaid, AreUnused, IsLane, unused_row, row_run, row_end, shown_by, run_of, pushed, popped, noted, emptied}
+use Rattle.gj_compact.specs.Lanes.{AreLaid, row_run, row_end, laned, run_of, pushed, popped, noted}
 
 -- a row that shows the same as the one that it replaces
 same_at : {X Y : Type 0} (f : X → Y) (xs : List X) (i : ℕ) (x new : X) (d : Y) → i < length xs → x ≡ get_or xs i x → f new ≡ f x → map f (set xs i new) ≡ map f xs
 same_at f xs i x new d below is same =
     map-set f xs i new ∙ (ap (set (map f xs) i) (same ∙ (ap f is ∙ sym (get_or-map f xs i x d below))) ∙ set-get_or (map f xs) i d)
 
-pub lane_noted : (rows : List Row) (cells : List End) (v : ℕ) (row : Row) → v < length rows → row ≡ get_or rows v row
-    → shown_by (set rows v (record { start = row.start; len = row.len; spare = row.spare; fresh = row.fresh + 1 })) cells ≡ noted (shown_by rows cells) v
-lane_noted rows cells v row below is =
+pub lane_noted : (rows : List Row) (cells : List End) (room v : ℕ) (row : Row) → v < length rows → row ≡ get_or rows v row
+    → laned (set rows v (record { start = row.start; len = row.len; spare = row.spare; fresh = row.fresh + 1 })) cells room ≡ noted (laned rows cells room) v
+lane_noted rows cells room v row below is =
     let new : Row = record { start = row.start; len = row.len; spare = row.spare; fresh = row.fresh + 1 } in
     let a = same_at (row_run cells) rows v row new [] below is refl in
     let b = same_at (λ (r : Row). r.spare) rows v row new 0 below is refl in
@@ -27,10 +27,10 @@ run_pop cells start len any =
     let e : len ≡ 1 + (len - 1) = omega arith in
     sym (ap (λ (n : ℕ). drop 1 (take n (drop start cells))) e ∙ (drop-take 1 (len - 1) (drop start cells) ∙ ap (take (len - 1)) (drop-drop 1 start cells)))
 
-pub lane_popped : (rows : List Row) (cells : List End) (v : ℕ) (row : Row) → v < length rows → row ≡ get_or rows v row
-    → 0 < length (run_of (shown_by rows cells).runs v)
-    → shown_by (set rows v (record { start = row.start + 1; len = row.len - 1; spare = row.spare; fresh = row.fresh })) cells ≡ popped (shown_by rows cells) v
-lane_popped rows cells v row below is any =
+pub lane_popped : (rows : List Row) (cells : List End) (room v : ℕ) (row : Row) → v < length rows → row ≡ get_or rows v row
+    → 0 < length (run_of (laned rows cells room).runs v)
+    → laned (set rows v (record { start = row.start + 1; len = row.len - 1; spare = row.spare; fresh = row.fresh })) cells room ≡ popped (laned rows cells room) v
+lane_popped rows cells room v row below is any =
     let new : Row = record { start = row.start + 1; len = row.len - 1; spare = row.spare; fresh = row.fresh } in
     let here : row_run cells row ≡ get_or (map (row_run cells) rows) v [] = ap (row_run cells) is ∙ sym (get_or-map (row_run cells) rows v row [] below) in
     let some : 0 < row.len = omega (arith, any, ap length here, length-take row.len (drop row.start cells)) in
@@ -55,16 +55,16 @@ run_more : (cells : List End) (start len : ℕ) (end : End) → start + len < le
 run_more cells start len end below =
     ap (take (len + 1)) (drop-set-add start cells len end) ∙ take_more_set (drop start cells) len end (omega (arith, below, length-drop start cells))
 
-pub lane_pushed : (rows : List Row) (cells : List End) (v : ℕ) (row : Row) (end : End) → v < length rows → row ≡ get_or rows v row → AreLaid rows (length cells)
-    → 0 < get_or (shown_by rows cells).spare v 0
-    → shown_by (set rows v (record { start = row.start; len = row.len + 1; spare = row.spare - 1; fresh = row.fresh })) (set cells (row.start + row.len) end)
-    ≡ pushed (shown_by rows cells) v end
-lane_pushed rows cells v row end below is laid room =
+pub lane_pushed : (rows : List Row) (cells : List End) (room v : ℕ) (row : Row) (end : End) → v < length rows → row ≡ get_or rows v row → AreLaid rows (length cells)
+    → 0 < get_or (laned rows cells room).spare v 0
+    → laned (set rows v (record { start = row.start; len = row.len + 1; spare = row.spare - 1; fresh = row.fresh })) (set cells (row.start + row.len) end) room
+    ≡ pushed (laned rows cells room) v end
+lane_pushed rows cells room v row end below is laid spare =
     let new : Row = record { start = row.start; len = row.len + 1; spare = row.spare - 1; fresh = row.fresh } in
     let p : ℕ = row.start + row.len in
     let cells' : List End = set cells p end in
     let here : row.spare ≡ get_or (map (λ (r : Row). r.spare) rows) v 0 = ap (λ (r : Row). r.spare) is ∙ sym (get_or-map (λ (r : Row). r.spare) rows v row 0 below) in
-    let some : 0 < row.spare = omega (arith, room, here) in
+    let some : 0 < row.spare = omega (arith, spare, here) in
     let ends : row_end row ≤ length cells = omega (arith, laid.within v row below, ap row_end is) in
     let run : row_run cells row ≡ get_or (map (row_run cells) rows) v [] = ap (row_run cells) is ∙ sym (get_or-map (row_run cells) rows v row [] below) in
     let more : row_run cells' new ≡ get_or (map (row_run cells) rows) v [] ++ end ∷ [] =
@@ -94,70 +94,38 @@ lane_pushed rows cells v row end below is laid room =
     let b : map (λ (r : Row). r.spare) (set rows v new) ≡ set (map (λ (r : Row). r.spare) rows) v (get_or (map (λ (r : Row). r.spare) rows) v 0 - 1) =
     map-set (λ (r : Row). r.spare) rows v new ∙ ap (λ (n : ℕ). set (map (λ (r : Row). r.spare) rows) v (n - 1)) here in
     let c = same_at (λ (r : Row). r.fresh) rows v row new 0 below is refl in
-    let r : length cells' ≡ length cells = length-set cells p end in
-    rw (a, b, c, r) refl
+    rw (a, b, c) refl
 
 pub map-replicate : {X Y : Type 0} (f : X → Y) (x : X) (n : ℕ) → map f (replicate n x) ≡ replicate n (f x)
 map-replicate f x zero = refl
 map-replicate f x (suc n) = let rest = map-replicate f x n in rw rest refl
 
--- what a row in the place of another shows alike, at each place
-same_in : (f : Row → ℕ) (rows : List Row) (v : ℕ) (row new : Row) → v < length rows → row ≡ get_or rows v row → f new ≡ f row → (w : ℕ) (d : Row)
-    → f (get_or (set rows v new) w d) ≡ f (get_or rows w d)
-same_in f rows v row new below is same w d = elim (cases_eq w v) [
-  | inl e ↦ rw e (ap f (get_or-set_same rows v new d below) ∙ (same ∙ (ap f is ∙ ap f (sym (get_or_default rows v d row below)))))
-  | inr ne ↦ ap f (get_or-set_other rows v w new d ne)
-]
-
--- a note leaves the places of all rows
-pub note_kept : (rows : List Row) (used used' : ℕ) (cells back : List End) (v : ℕ) (row : Row) → IsLane rows used cells back → v < length rows → row ≡ get_or rows v row
-    → used ≤ used' → v < used' → used' ≤ length rows
-    → IsLane (set rows v (record { start = row.start; len = row.len; spare = row.spare; fresh = row.fresh + 1 })) used' cells back
-note_kept rows used used' cells back v row lane below is more past inside =
-    let new : Row = record { start = row.start; len = row.len; spare = row.spare; fresh = row.fresh + 1 } in
-    let ends = same_in row_end rows v row new below is refl in
-    let starts = same_in (λ (r : Row). r.start) rows v row new below is refl in
+-- a row in the place of another, and within it
+pub laid_set : (rows : List Row) (size v : ℕ) (row new : Row) → AreLaid rows size → v < length rows → row ≡ get_or rows v row → row.start ≤ new.start → row_end new ≤ row_end row
+    → AreLaid (set rows v new) size
+laid_set rows size v row new laid below is starts ends =
     let long : length (set rows v new) ≡ length rows = length-set rows v new in
+    let same : (d : Row) → get_or rows v d ≡ row = λ d. get_or_default rows v d row below ∙ sym is in
+    let at_v : (w : ℕ) (d : Row) → w ≡ v → get_or (set rows v new) w d ≡ new = λ w d e. ap (λ (n : ℕ). get_or (set rows v new) n d) e ∙ get_or-set_same rows v new d below in
     record {
-      small = lane.small;
-      same = lane.same;
-      laid = record {
-        within = λ w d h. omega (arith, ends w d, lane.laid.within w d (omega (arith, h, long)));
-        apart = λ u w d a h. omega (arith, ends u d, starts w d, lane.laid.apart u w d a (omega (arith, h, long)));
-      };
-      inside = omega (arith, inside, long);
-      unused = record { row = λ w d a h. get_or-set_other rows v w new d (omega arith) ∙ lane.unused.row w d (omega arith) (omega (arith, h, long)) };
+      within = λ w d h. elim (cases_eq w v) [
+        | inl e ↦ omega (arith, ap row_end (at_v w d e), ends, laid.within v d below, ap row_end (same d))
+        | inr ne ↦ omega (arith, ap row_end (get_or-set_other rows v w new d ne), laid.within w d (omega (arith, h, long)))
+      ];
+      apart = λ u w d a h.
+          let in_rows : w < length rows = omega (arith, h, long) in
+          elim (cases_eq u v) [
+            | inl e ↦
+                let ne : w ≢ v = omega arith in
+                omega (arith, ap row_end (at_v u d e), ap (λ (r : Row). r.start) (get_or-set_other rows v w new d ne), ends, laid.apart v w d (omega (arith, a, e)) in_rows, ap row_end (same d))
+            | inr ne ↦ elim (cases_eq w v) [
+              | inl q ↦
+                  omega (arith, ap row_end (get_or-set_other rows v u new d ne), ap (λ (r : Row). r.start) (at_v w d q), starts, laid.apart u v d (omega (arith, a, q)) below, ap (λ (r : Row). r.start) (same d))
+              | inr nq ↦
+                  omega (arith, ap row_end (get_or-set_other rows v u new d ne), ap (λ (r : Row). r.start) (get_or-set_other rows v w new d nq), laid.apart u w d a in_rows)
+            ]
+          ];
     }
-
--- with the rows before `used` forgotten, all are unused
-pub rows_forgotten : (rows : List Row) (used size : ℕ) → used ≤ length rows → AreUnused rows used size → replicate used (unused_row size) ++ drop used rows ≡ replicate (length rows) (unused_row size)
-rows_forgotten rows used size inside none =
-    let row : Row = unused_row size in
-    let front : length (replicate used row) ≡ used = length-replicate used row in
-    let long : length (replicate used row ++ drop used rows) ≡ length rows = omega (arith, length-append (replicate used row) (drop used rows), front, length-drop used rows) in
-    ext_get_or row _ _ (long ∙ sym (length-replicate (length rows) row))
-    (λ i h.
-    let below : i < length rows = omega (arith, h, long) in
-    elim (cases_lt i used) [
-      | inl a ↦ get_or_append_left (replicate used row) (drop used rows) row i (omega (arith, a, front)) ∙ get_or-replicate used i row row a
-      | inr a ↦
-          let e : used + (i - used) ≡ i = omega arith in
-          get_or-append_right (replicate used row) (drop used rows) used i row front a
-          ∙ (get_or-drop used rows (i - used) row ∙ (ap (λ (n : ℕ). get_or rows n row) e ∙ none.row i row a below))
-    ] ∙ sym (get_or-replicate (length rows) i row row below))
-
-pub lane_emptied : (rows rows' : List Row) (cells : List End) (size : ℕ) → rows' ≡ replicate (length rows) (unused_row size)
-    → shown_by rows' cells ≡ emptied (shown_by rows cells)
-lane_emptied rows rows' cells size are =
-    let row : Row = unused_row size in
-    let n = length-map rows (row_run cells) in
-    let a = map-replicate (row_run cells) row (length rows) in
-    let b = map-replicate (λ (r : Row). r.spare) row (length rows) in
-    let d = map-replicate (λ (r : Row). r.fresh) row (length rows) in
-    rw (are, a, b, d, n) refl
-
-pub run_is : (rows : List Row) (cells : List End) (v : ℕ) (row : Row) → v < length rows → row ≡ get_or rows v row → row_run cells row ≡ run_of (shown_by rows cells).runs v
-run_is rows cells v row below is = ap (row_run cells) is ∙ sym (get_or-map (row_run cells) rows v row [] below)
 
 pub run_long : (cells : List End) (row : Row) → length (row_run cells row) ≤ row.len
 run_long cells row = omega (arith, length-take row.len (drop row.start cells))

@@ -4,6 +4,8 @@ pub mod CompactLemmas
 pub mod LaneLemmas
 pub mod NoteLemmas
 pub mod OpenLemmas
+pub mod PackLemmas
+pub mod RowLemmas
 pub mod SpanLemmas
 pub mod SumLemmas
 pub mod TotalLemmas

@@ -1,145 +1,181 @@
--- The runs laid out anew, row by row.
-use Rattle.std.proofs.Common.{◌≡◌, ◌≢◌, ℕ, zero, suc, ◌+◌, ◌-◌, ◌<◌, ◌≤◌, ◌∙◌, List, [], ◌∷◌, length, map, take, drop, set, get_or, refl, arith, sym, ap, inl, inr}
+-- The runs spread in one array, from the last one to the first, each with room for what was noted.
+use Rattle.std.proofs.Common.{◌≡◌, ℕ, zero, suc, ◌+◌, ◌-◌, ◌<◌, ◌≤◌, ◌∙◌, List, [], ◌∷◌, ◌++◌, length, map, take, drop, set, get_or, replicate, refl, arith, sym, ap, subst, inl, inr}
 use Rattle.std.specs.List.{sum_by}
-use Rattle.std.proofs.lemmas.Bool.{cases_eq, cases_lt}
-use Rattle.std.proofs.lemmas.List.{length-map, length-set, length-take, length-drop, get_or-map, get_or-set_same, get_or-set_other, ext_get_or, drop-take, take-take, get_or_default}
-use Rattle.std.proofs.lemmas.List.Sums.{sum_by-cons}
+use Rattle.std.proofs.lemmas.Bool.{cases_eq}
+use Rattle.std.proofs.lemmas.List.{length-set, length-take, length-drop, take-take, get_or-set_same, get_or-set_other, get_or_default}
+use Rattle.std.proofs.lemmas.List.Sums.{sum_by_more, sum_by-cons, sum_by-append, sum_by-take-drop}
 use Rattle.gj_compact.specs.declared.lane.Row.{Row}
 use Rattle.gj_compact.specs.declared.edge.End.{End}
-use Rattle.gj_compact.specs.Lanes.{AreLaid, AreUnused, unused_row, row_run, row_end, want_of, shown_by, opened}
+use Rattle.gj_compact.specs.Lanes.{AreLaid, all_rows, laned, unused_row, row_run, row_end, want_of, wanted, opened}
+use Rattle.gj_compact.specs.Moves.{len_of, AreDense}
+use Rattle.gj_compact.proofs.PackLemmas.{run_kept, rest_kept, map_same}
+use Rattle.gj_compact.proofs.RowLemmas.{laid_behind, map_all}
 
 -- a row in its new place
-pub record IsMoved (old new : Row) (cells back : List End) (next : ℕ) : Type 0 where
+pub record IsMoved (old new : Row) (cells back : List End) : Type 0 where
   pub len : new.len ≡ old.len
   pub spare : new.spare ≡ old.fresh
   pub fresh : new.fresh ≡ 0
-  pub within : row_end new ≤ next
   pub run : row_run back new ≡ row_run cells old
 
--- the first v rows are in their new places, which end at next
-pub record LaidTo (old rows : List Row) (cells back : List End) (v next : ℕ) : Type 0 where
+-- the rows from v on are in their new places, which begin at next, and what lies before is what lay there
+pub record SpreadFrom (old rows : List Row) (cells0 cells : List End) (v next : ℕ) : Type 0 where
   pub long : length rows ≡ length old
-  pub rest : (w : ℕ) (d : Row) → v ≤ w → w < length old → get_or rows w d ≡ get_or old w d
+  pub size : length cells ≡ length cells0
+  pub rest : (w : ℕ) (d : Row) → w < v → get_or rows w d ≡ get_or old w d
   pub next_is : next ≡ sum_by want_of (take v old)
-  pub moved : (w : ℕ) (d : Row) → w < v → w < length old → IsMoved (get_or old w d) (get_or rows w d) cells back next
-  pub apart : (u w : ℕ) (d : Row) → u < w → w < v → w < length old → row_end (get_or rows u d) ≤ (get_or rows w d).start
+  pub front : take next cells ≡ take next cells0
+  pub low : (w : ℕ) (d : Row) → v ≤ w → w < length old → next ≤ (get_or rows w d).start
+  pub within : (w : ℕ) (d : Row) → v ≤ w → w < length old → row_end (get_or rows w d) ≤ length cells0
+  pub moved : (w : ℕ) (d : Row) → v ≤ w → w < length old → IsMoved (get_or old w d) (get_or rows w d) cells0 cells
+  pub apart : (u w : ℕ) (d : Row) → v ≤ u → u < w → w < length old → row_end (get_or rows u d) ≤ (get_or rows w d).start
 
-pub laid_none : (old : List Row) (cells back : List End) → LaidTo old old cells back 0 0
-laid_none old cells back = record {
+pub spread_none : (old : List Row) (cells : List End) (v next : ℕ) → v ≡ length old → next ≡ sum_by want_of (take v old) → SpreadFrom old old cells cells v next
+spread_none old cells v next e is = record {
   long = refl;
-  rest = λ w d a b. refl;
-  next_is = refl;
+  size = refl;
+  rest = λ w d a. refl;
+  next_is = is;
+  front = refl;
+  low = λ w d a b. absurd (omega arith);
+  within = λ w d a b. absurd (omega arith);
   moved = λ w d a b. absurd (omega arith);
-  apart = λ u w d a b e. absurd (omega arith);
+  apart = λ u w d a b h. absurd (omega arith);
 }
 
--- what lies before a place is read from there
-pub run_within : (xs : List End) (start len to : ℕ) → start + len ≤ to → take len (drop start xs) ≡ take len (drop start (take to xs))
-run_within xs start len to fits =
-    let e : to ≡ start + (to - start) = omega arith in
-    sym (ap (λ (n : ℕ). take len (drop start (take n xs))) e ∙ (ap (take len) (drop-take start (to - start) xs) ∙ take-take len (to - start) (drop start xs) (omega arith)))
+-- what lies before a lower place too
+front_less : (xs ys : List End) (n m : ℕ) → n ≤ m → take m xs ≡ take m ys → take n xs ≡ take n ys
+front_less xs ys n m less same = sym (take-take n m xs less) ∙ (ap (take n) same ∙ take-take n m ys less)
 
-pub run_kept : (xs ys : List End) (start len to : ℕ) → start + len ≤ to → take to xs ≡ take to ys → take len (drop start xs) ≡ take len (drop start ys)
-run_kept xs ys start len to fits same =
-    run_within xs start len to fits ∙ (ap (λ (l : List End). take len (drop start l)) same ∙ sym (run_within ys start len to fits))
+-- what a vertex wants is no less than what it has
+len_most : (rows : List Row) (n : ℕ) → sum_by len_of (take n rows) ≤ sum_by want_of (take n rows)
+len_most rows zero = omega arith
+len_most [] (suc n) = omega arith
+len_most (row ∷ rows) (suc n) =
+    let rest = len_most rows n in
+    omega (arith, rest, sum_by-cons len_of row (take n rows), sum_by-cons want_of row (take n rows))
 
-pub laid_more : (old rows : List Row) (cells back back' : List End) (v next : ℕ) (row : Row) → LaidTo old rows cells back v next → v < length old
-    → row ≡ get_or rows v row → take row.len (drop next back') ≡ take row.len (drop row.start cells) → take next back' ≡ take next back
-    → sum_by want_of (take (v + 1) old) ≡ sum_by want_of (take v old) + want_of (get_or old v row)
-    → LaidTo old (set rows v (record { start = next; len = row.len; spare = row.fresh; fresh = 0 })) cells back' (v + 1) (next + (row.len + row.fresh))
-laid_more old rows cells back back' v next row so below is copied before sum =
+-- the ends of a row lie before what those up to it want
+pub dense_before : (old : List Row) (v : ℕ) (row : Row) → AreDense old → v < length old → row ≡ get_or old v row → row.start + row.len ≤ sum_by want_of (take v old) + row.len
+dense_before old v row dense below is = omega (arith, dense v row below, ap (λ (r : Row). r.start) is, len_most old v)
+
+pub spread_more : (old rows : List Row) (cells0 cells cells' : List End) (v next : ℕ) (row : Row) → SpreadFrom old rows cells0 cells (v + 1) (next + (row.len + row.fresh)) → AreDense old → v < length old
+    → next + (row.len + row.fresh) ≤ length cells0
+    → row ≡ get_or rows v row → take row.len (drop next cells') ≡ take row.len (drop row.start cells) → take next cells' ≡ take next cells
+    → drop (next + row.len) cells' ≡ drop (next + row.len) cells → length cells' ≡ length cells
+    → SpreadFrom old (set rows v (record { start = next; len = row.len; spare = row.fresh; fresh = 0 })) cells0 cells' v next
+spread_more old rows cells0 cells cells' v next row so dense below fits is copied before after size =
     let new : Row = record { start = next; len = row.len; spare = row.fresh; fresh = 0 } in
+    let limit : ℕ = next + (row.len + row.fresh) in
     let in_rows : v < length rows = omega (arith, below, so.long) in
-    let was : row ≡ get_or old v row = is ∙ so.rest v row (omega arith) below in
+    let was : row ≡ get_or old v row = is ∙ so.rest v row (omega arith) in
+    let next_is : next ≡ sum_by want_of (take v old) = omega (arith, so.next_is, sum_by_more want_of old v row below, ap want_of was) in
+    let inside : row.start + row.len ≤ limit = omega (arith, dense_before old v row dense below was, next_is) in
+    let run : take row.len (drop next cells') ≡ take row.len (drop row.start cells0) = copied ∙ run_kept cells cells0 row.start row.len limit inside so.front in
+    let front : take next cells ≡ take next cells0 = front_less cells cells0 next limit (omega arith) so.front in
+    let at_v : (d : Row) → get_or (set rows v new) v d ≡ new = λ d. get_or-set_same rows v new d in_rows in
+    let other : (w : ℕ) (d : Row) → v < w → get_or (set rows v new) w d ≡ get_or rows w d = λ w d a. get_or-set_other rows v w new d (omega arith) in
     record {
       long = length-set rows v new ∙ so.long;
-      rest = λ w d a b. get_or-set_other rows v w new d (omega arith) ∙ so.rest w d (omega arith) b;
-      next_is = omega (arith, so.next_is, sum, ap want_of was);
+      size = size ∙ so.size;
+      rest = λ w d a. get_or-set_other rows v w new d (omega arith) ∙ so.rest w d (omega arith);
+      next_is = next_is;
+      front = before ∙ front;
+      low = λ w d a b. elim (cases_eq w v) [
+        | inl e ↦ rw (e, at_v d) (omega arith)
+        | inr ne ↦ omega (arith, ap (λ (r : Row). r.start) (other w d (omega (arith, a, ne))), so.low w d (omega (arith, a, ne)) b)
+      ];
+      within = λ w d a b. elim (cases_eq w v) [
+        | inl e ↦ rw (e, at_v d) (omega (arith, fits))
+        | inr ne ↦ omega (arith, ap row_end (other w d (omega (arith, a, ne))), so.within w d (omega (arith, a, ne)) b)
+      ];
       moved = λ w d a b. elim (cases_eq w v) [
         | inl e ↦
-            let here : get_or (set rows v new) w d ≡ new = ap (λ (n : ℕ). get_or (set rows v new) n d) e ∙ get_or-set_same rows v new d in_rows in
+            let here : get_or (set rows v new) w d ≡ new = ap (λ (n : ℕ). get_or (set rows v new) n d) e ∙ at_v d in
             let there : get_or old w d ≡ row = ap (λ (n : ℕ). get_or old n d) e ∙ (get_or_default old v d row below ∙ sym was) in
-            rw (here, there) (record { len = refl; spare = refl; fresh = refl; within = omega arith; run = copied })
+            rw (here, there) (record { len = refl; spare = refl; fresh = refl; run = run })
         | inr ne ↦
-            let same : get_or (set rows v new) w d ≡ get_or rows w d = get_or-set_other rows v w new d ne in
-            let m = so.moved w d (omega (arith, a, ne)) b in
-            rw same (record {
+            let higher : v + 1 ≤ w = omega (arith, a, ne) in
+            let m = so.moved w d higher b in
+            let behind : next + row.len ≤ (get_or rows w d).start = omega (arith, so.low w d higher b) in
+            rw (other w d (omega arith)) (record {
               len = m.len;
               spare = m.spare;
               fresh = m.fresh;
-              within = omega (arith, m.within);
-              run = run_kept back' back (get_or rows w d).start (get_or rows w d).len next (omega (arith, m.within)) before ∙ m.run;
+              run = ap (take (get_or rows w d).len) (rest_kept cells' cells (next + row.len) (get_or rows w d).start behind after) ∙ m.run;
             })
       ];
-      apart = λ u w d a b e.
-          let lower : u ≢ v = omega arith in
-          let at_u : get_or (set rows v new) u d ≡ get_or rows u d = get_or-set_other rows v u new d lower in
-          elim (cases_eq w v) [
-            | inl q ↦
-                let here : get_or (set rows v new) w d ≡ new = ap (λ (n : ℕ). get_or (set rows v new) n d) q ∙ get_or-set_same rows v new d in_rows in
-                rw (at_u, here) (so.moved u d (omega (arith, a, q)) (omega (arith, a, e))).within
-            | inr ne ↦
-                let at_w : get_or (set rows v new) w d ≡ get_or rows w d = get_or-set_other rows v w new d ne in
-                rw (at_u, at_w) (so.apart u w d a (omega (arith, b, ne)) e)
+      apart = λ u w d a b h.
+          let at_w = other w d (omega arith) in
+          let higher : v + 1 ≤ w = omega arith in
+          elim (cases_eq u v) [
+            | inl e ↦
+                let here : get_or (set rows v new) u d ≡ new = ap (λ (n : ℕ). get_or (set rows v new) n d) e ∙ at_v d in
+                omega (arith, ap row_end here, ap (λ (r : Row). r.start) at_w, so.low w d higher h)
+            | inr ne ↦ omega (arith, ap row_end (other u d (omega (arith, a, ne))), ap (λ (r : Row). r.start) at_w, so.apart u w d (omega (arith, a, ne)) b h)
           ];
     }
 
--- the rows behind them stay unused
-pub unused_rest : (old rows : List Row) (cells back : List End) (v next size : ℕ) → LaidTo old rows cells back v next → AreUnused old v size → AreUnused rows v size
-unused_rest old rows cells back v next size so none = record {
-  row = λ w d a h.
-      let b : w < length old = omega (arith, h, so.long) in
-      so.rest w d a b ∙ none.row w d a b;
-}
+-- what is known of the row that is next
+pub record IsNext (row : Row) (next size : ℕ) : Type 0 where
+  pub wants : row.len + row.fresh ≤ next
+  pub few : next ≤ size
+  pub inside : row.start + row.len ≤ next
 
--- when all are in place
-pub laid_all : (old rows : List Row) (cells back : List End) (v next size : ℕ) → LaidTo old rows cells back v next → AreUnused old v size → next ≤ size → AreLaid rows size
-laid_all old rows cells back v next size so none fits =
-    let rest = unused_rest old rows cells back v next size so none in
-    let within : (w : ℕ) (d : Row) → w < length rows → row_end (get_or rows w d) ≤ size = λ w d h. elim (cases_lt w v) [
-      | inl a ↦ omega (arith, (so.moved w d a (omega (arith, h, so.long))).within, fits)
-      | inr a ↦ omega (arith, ap row_end (rest.row w d a h))
-    ] in
+next_row : (old rows : List Row) (cells0 cells : List End) (v next : ℕ) (row : Row) → SpreadFrom old rows cells0 cells (v + 1) next → AreDense old → length cells0 ≡ sum_by want_of old → v < length old
+    → row ≡ get_or rows v row → IsNext row next (length cells0)
+next_row old rows cells0 cells v next row so dense size below is =
+    let was : row ≡ get_or old v row = is ∙ so.rest v row (omega arith) in
+    let more = sum_by_more want_of old v row below in
     record {
-      within = within;
-      apart = λ u w d a h. elim (cases_lt w v) [
-        | inl b ↦ so.apart u w d a b (omega (arith, h, so.long))
-        | inr b ↦ omega (arith, within u d (omega (arith, a, h)), ap (λ (r : Row). r.start) (rest.row w d b h))
-      ];
+      wants = omega (arith, so.next_is, more, ap want_of was);
+      few = omega (arith, so.next_is, sum_by-take-drop want_of old (v + 1), size);
+      inside = omega (arith, dense_before old v row dense below was, so.next_is, more, ap want_of was);
     }
 
-map_same : {X Y : Type 0} (f g : X → Y) (xs ys : List X) (x : X) (y : Y) → length xs ≡ length ys → ((i : ℕ) → i < length ys → f (get_or xs i x) ≡ g (get_or ys i x)) → map f xs ≡ map g ys
-map_same f g xs ys x y long each =
-    ext_get_or y (map f xs) (map g ys) (length-map xs f ∙ (long ∙ sym (length-map ys g)))
-    (λ i h.
-    let a : i < length xs = omega (arith, h, length-map xs f) in
-    let b : i < length ys = omega (arith, a, long) in
-    get_or-map f xs i x y a ∙ (each i b ∙ sym (get_or-map g ys i x y b)))
+pub spread_next : (old rows : List Row) (cells0 cells : List End) (v next : ℕ) (row : Row) → SpreadFrom old rows cells0 cells v next → AreDense old → length cells0 ≡ sum_by want_of old
+    → 0 < v → v ≤ length old → row ≡ get_or rows (v - 1) row → IsNext row next (length cells0)
+spread_next old rows cells0 cells v next row so dense size any most is =
+    let e : v ≡ v - 1 + 1 = omega arith in
+    next_row old rows cells0 cells (v - 1) next row (subst (λ (n : ℕ). SpreadFrom old rows cells0 cells n next) e so) dense size (omega arith) is
 
--- each row shows what it should, moved or unused
-shows_all : {Y : Type 0} (f g : Row → Y) (y : Y) (old rows : List Row) (cells back : List End) (v next size : ℕ) → LaidTo old rows cells back v next → AreUnused old v size
-    → f (unused_row size) ≡ g (unused_row size) → ((r r' : Row) → IsMoved r r' cells back next → f r' ≡ g r) → map f rows ≡ map g old
-shows_all f g y old rows cells back v next size so none same each =
-    let d : Row = unused_row size in
-    let rest = unused_rest old rows cells back v next size so none in
-    map_same f g rows old d y so.long (λ i h. elim (cases_lt i v) [
-      | inl a ↦ each (get_or old i d) (get_or rows i d) (so.moved i d a h)
-      | inr a ↦ ap f (rest.row i d a (omega (arith, h, so.long))) ∙ (same ∙ sym (ap g (none.row i d a h)))
-    ])
+pub spread_step : (old rows : List Row) (cells0 cells cells' : List End) (v next : ℕ) (row : Row) → SpreadFrom old rows cells0 cells v next → AreDense old → length cells0 ≡ sum_by want_of old
+    → 0 < v → v ≤ length old → row ≡ get_or rows (v - 1) row
+    → take row.len (drop (next - (row.len + row.fresh)) cells') ≡ take row.len (drop row.start cells) → take (next - (row.len + row.fresh)) cells' ≡ take (next - (row.len + row.fresh)) cells
+    → drop (next - (row.len + row.fresh) + row.len) cells' ≡ drop (next - (row.len + row.fresh) + row.len) cells → length cells' ≡ length cells
+    → SpreadFrom old (set rows (v - 1) (record { start = next - (row.len + row.fresh); len = row.len; spare = row.fresh; fresh = 0 })) cells0 cells' (v - 1) (next - (row.len + row.fresh))
+spread_step old rows cells0 cells cells' v next row so dense size any most is copied before after same =
+    let e : v ≡ v - 1 + 1 = omega arith in
+    let known = spread_next old rows cells0 cells v next row so dense size any most is in
+    let e' : next ≡ next - (row.len + row.fresh) + (row.len + row.fresh) = omega (arith, known.wants) in
+    let so' = subst (λ (n : ℕ). SpreadFrom old rows cells0 cells n next) e so in
+    spread_more old rows cells0 cells cells' (v - 1) (next - (row.len + row.fresh)) row (subst (λ (m : ℕ). SpreadFrom old rows cells0 cells (v - 1 + 1) m) e' so') dense (omega arith)
+    (omega (arith, known.wants, known.few)) is copied before after same
 
-pub all_runs : (old rows : List Row) (cells back : List End) (v next size : ℕ) → LaidTo old rows cells back v next → AreUnused old v size
-    → map (row_run back) rows ≡ map (row_run cells) old
-all_runs old rows cells back v next size so none = shows_all (row_run back) (row_run cells) [] old rows cells back v next size so none refl (λ r r' m. m.run)
+-- when all are in place
+pub spread_laid : (old rows : List Row) (cells0 cells : List End) (next : ℕ) → SpreadFrom old rows cells0 cells 0 next → AreLaid rows (length cells)
+spread_laid old rows cells0 cells next so = record {
+  within = λ w d h. omega (arith, so.within w d (omega arith) (omega (arith, h, so.long)), so.size);
+  apart = λ u w d a h. so.apart u w d (omega arith) a (omega (arith, h, so.long));
+}
 
-pub all_spare : (old rows : List Row) (cells back : List End) (v next size : ℕ) → LaidTo old rows cells back v next → AreUnused old v size
+-- each row shows what it should
+shows_all : {Y : Type 0} (f g : Row → Y) (old rows : List Row) (cells0 cells : List End) (next : ℕ) → SpreadFrom old rows cells0 cells 0 next
+    → ((r r' : Row) → IsMoved r r' cells0 cells → f r' ≡ g r) → map f rows ≡ map g old
+shows_all f g old rows cells0 cells next so each =
+    let d : Row = unused_row 0 in
+    map_same f g rows old d (g d) so.long (λ i h. each (get_or old i d) (get_or rows i d) (so.moved i d (omega arith) h))
+
+pub all_runs : (old rows : List Row) (cells0 cells : List End) (next : ℕ) → SpreadFrom old rows cells0 cells 0 next → map (row_run cells) rows ≡ map (row_run cells0) old
+all_runs old rows cells0 cells next so = shows_all (row_run cells) (row_run cells0) old rows cells0 cells next so (λ r r' m. m.run)
+
+pub all_spare : (old rows : List Row) (cells0 cells : List End) (next : ℕ) → SpreadFrom old rows cells0 cells 0 next
     → map (λ (row : Row). row.spare) rows ≡ map (λ (row : Row). row.fresh) old
-all_spare old rows cells back v next size so none =
-    shows_all (λ (row : Row). row.spare) (λ (row : Row). row.fresh) 0 old rows cells back v next size so none refl (λ r r' m. m.spare)
+all_spare old rows cells0 cells next so = shows_all (λ (row : Row). row.spare) (λ (row : Row). row.fresh) old rows cells0 cells next so (λ r r' m. m.spare)
 
-pub all_fresh : (old rows : List Row) (cells back : List End) (v next size : ℕ) → LaidTo old rows cells back v next → AreUnused old v size
+pub all_fresh : (old rows : List Row) (cells0 cells : List End) (next : ℕ) → SpreadFrom old rows cells0 cells 0 next
     → map (λ (row : Row). row.fresh) rows ≡ map (λ (row : Row). 0) old
-all_fresh old rows cells back v next size so none =
-    shows_all (λ (row : Row). row.fresh) (λ (row : Row). 0) 0 old rows cells back v next size so none refl (λ r r' m. m.fresh)
+all_fresh old rows cells0 cells next so = shows_all (λ (row : Row). row.fresh) (λ (row : Row). 0) old rows cells0 cells next so (λ r r' m. m.fresh)
 
 -- what the lists and the notes want is what the rows want
 pub wanted_is : (rows : List Row) (cells : List End) → ((v : ℕ) (d : Row) → v < length rows → row_end (get_or rows v d) ≤ length cells)
@@ -158,11 +194,43 @@ wanted_is (row ∷ rows) cells within =
       sum_by-cons want_of row rows,
     )
 
+none_wanted : (n size : ℕ) → sum_by want_of (replicate n (unused_row size)) ≡ 0
+none_wanted zero size = refl
+none_wanted (suc n) size = omega (arith, none_wanted n size, sum_by-cons want_of (unused_row size) (replicate n (unused_row size)))
+
+-- the same of the rows that there are
+pub all_wanted : (rows : List Row) (n : ℕ) (cells : List End) (room : ℕ) → AreLaid rows (length cells) → wanted (laned (all_rows rows n (length cells)) cells room) ≡ sum_by want_of rows
+all_wanted rows n cells room laid =
+    let size : ℕ = length cells in
+    let all = laid_behind rows size (n - length rows) laid in
+    omega (
+      arith,
+      wanted_is (all_rows rows n size) cells all.within,
+      sum_by-append want_of rows (replicate (n - length rows) (unused_row size)),
+      none_wanted (n - length rows) size,
+    )
+
 map_zero : (rows : List Row) → map {B = ℕ} (λ (row : Row). 0) rows ≡ map {B = ℕ} (λ (n : ℕ). 0) (map (λ (row : Row). row.fresh) rows)
 map_zero [] = refl
 map_zero (row ∷ rows) = let rest = map_zero rows in rw rest refl
 
-pub lane_opened : (rows rows' : List Row) (cells back : List End) → map (row_run back) rows' ≡ map (row_run cells) rows
+pub lane_opened : (rows rows' : List Row) (n : ℕ) (cells back : List End) (room : ℕ) → length rows' ≡ length rows → map (row_run back) rows' ≡ map (row_run cells) rows
     → map (λ (row : Row). row.spare) rows' ≡ map (λ (row : Row). row.fresh) rows → map (λ (row : Row). row.fresh) rows' ≡ map {B = ℕ} (λ (row : Row). 0) rows
-    → length back ≡ length cells → shown_by rows' back ≡ opened (shown_by rows cells)
-lane_opened rows rows' cells back a b c e = let z = c ∙ map_zero rows in rw (a, b, z, e) refl
+    → laned (all_rows rows' n (length back)) back room ≡ opened (laned (all_rows rows n (length cells)) cells room)
+lane_opened rows rows' n cells back room long a b c =
+    let old : List Row = all_rows rows n (length cells) in
+    let new : List Row = all_rows rows' n (length back) in
+    let runs : map (row_run back) new ≡ map (row_run cells) old =
+    map_all (row_run back) [] rows' n (length back) refl
+    ∙ (ap (λ (l : List (List End)). l ++ replicate (n - length rows') []) a
+    ∙ (ap (λ (k : ℕ). map (row_run cells) rows ++ replicate (n - k) []) long ∙ sym (map_all (row_run cells) [] rows n (length cells) refl))) in
+    let spare : map (λ (row : Row). row.spare) new ≡ map (λ (row : Row). row.fresh) old =
+    map_all (λ (row : Row). row.spare) 0 rows' n (length back) refl
+    ∙ (ap (λ (l : List ℕ). l ++ replicate (n - length rows') 0) b
+    ∙ (ap (λ (k : ℕ). map (λ (row : Row). row.fresh) rows ++ replicate (n - k) 0) long ∙ sym (map_all (λ (row : Row). row.fresh) 0 rows n (length cells) refl))) in
+    let fresh : map (λ (row : Row). row.fresh) new ≡ map {B = ℕ} (λ (row : Row). 0) old =
+    map_all (λ (row : Row). row.fresh) 0 rows' n (length back) refl
+    ∙ (ap (λ (l : List ℕ). l ++ replicate (n - length rows') 0) c
+    ∙ (ap (λ (k : ℕ). map {B = ℕ} (λ (row : Row). 0) rows ++ replicate (n - k) 0) long ∙ sym (map_all (λ (row : Row). 0) 0 rows n (length cells) refl))) in
+    let z = fresh ∙ map_zero old in
+    rw (runs, spare, z) refl

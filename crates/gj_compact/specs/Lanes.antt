@@ -1,7 +1,8 @@
 -- How the ends of each vertex lie in one array, oldest first.
-use Rattle.std.specs.Prelude.{◌≡◌, ℕ, ◌+◌, ◌-◌, ◌<◌, ◌≤◌, List, [], ◌∷◌, ◌++◌, length, map, replicate, take, drop, sum_by, slice_index_or, slice_set}
+use Rattle.std.specs.Prelude.{ℕ, ◌+◌, ◌-◌, ◌<◌, ◌≤◌, List, [], ◌∷◌, ◌++◌, length, map, replicate, take, drop, sum_by, slice_index_or, slice_set}
 use Rattle.gj_compact.specs.declared.lane.Row.{Row}
 use Rattle.gj_compact.specs.declared.edge.End.{End}
+use Rattle.gj_compact.specs.Cells.{Celled}
 
 -- what contracts see: one list of ends per vertex, how many more each may take at once, and how many were noted
 pub record Laned : Type 0 where
@@ -22,34 +23,37 @@ row_run cells row = take row.len (drop row.start cells)
 abbrev pub row_end : Row → ℕ
 row_end row = row.start + row.len + row.spare
 
-abbrev pub shown_by : List Row → List End → Laned
-shown_by rows cells = record {
+-- what these rows of all vertices show
+abbrev pub laned : List Row → List End → ℕ → Laned
+laned rows cells room = record {
   runs = map (row_run cells) rows;
   spare = map (λ (row : Row). row.spare) rows;
   fresh = map (λ (row : Row). row.fresh) rows;
-  room = length cells;
+  room = room;
 }
+
+-- the row of a vertex for which nothing was noted, behind all cells
+abbrev pub unused_row : ℕ → Row
+unused_row size = record { start = size; len = 0; spare = 0; fresh = 0 }
+
+-- the rows of all vertices: nothing was noted for those behind the rows that there are
+abbrev pub all_rows : List Row → ℕ → ℕ → List Row
+all_rows rows vertices size = rows ++ replicate (vertices - length rows) (unused_row size)
+
+abbrev pub shown_by : List Row → ℕ → Celled → Laned
+shown_by rows vertices cells = laned (all_rows rows vertices (length cells.ends)) cells.ends cells.room
 
 -- the rows lie one behind the other
 pub record AreLaid (rows : List Row) (size : ℕ) : Type 0 where
   pub within : (v : ℕ) (d : Row) → v < length rows → row_end (slice_index_or rows v d) ≤ size
   pub apart : (v w : ℕ) (d : Row) → v < w → w < length rows → row_end (slice_index_or rows v d) ≤ (slice_index_or rows w d).start
 
--- the row of a vertex for which nothing was noted, behind all cells
-abbrev pub unused_row : ℕ → Row
-unused_row size = record { start = size; len = 0; spare = 0; fresh = 0 }
-
--- nothing was noted for the vertices from used on
-pub record AreUnused (rows : List Row) (used size : ℕ) : Type 0 where
-  pub row : (v : ℕ) (d : Row) → used ≤ v → v < length rows → slice_index_or rows v d ≡ unused_row size
-
 -- what stays true of a lane
-pub record IsLane (rows : List Row) (used : ℕ) (cells back : List End) : Type 0 where
-  pub small : length cells ≤ 8388608
-  pub same : length back ≡ length cells
-  pub laid : AreLaid rows (length cells)
-  pub inside : used ≤ length rows
-  pub unused : AreUnused rows used (length cells)
+pub record IsLane (rows : List Row) (vertices : ℕ) (cells : Celled) : Type 0 where
+  pub small : cells.room ≤ 8388608
+  pub fits : length cells.ends ≤ cells.room
+  pub laid : AreLaid rows (length cells.ends)
+  pub few : length rows ≤ vertices
 
 -- what a row holds, and what was noted for it
 abbrev pub want_of : Row → ℕ

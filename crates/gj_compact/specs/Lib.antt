@@ -3,6 +3,7 @@ pub mod Cells
 pub mod Compact
 pub mod Counting
 pub mod Lanes
+pub mod Moves
 pub mod Spans
 pub mod Sums
 pub mod Turns

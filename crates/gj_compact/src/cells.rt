@@ -1,7 +1,7 @@
 //! Ends in columns: a walk reads the vertices alone, and most queries no moment.
-ghost use Rattle.std.specs.Prelude.{◌≡◌, ◌+◌, ◌-◌, ◌*◌, ◌/◌, ◌<◌, ◌≤◌, IfOk, IfSome, Some, replicate, length, take, drop, count_by, filter, slice_get, slice_set};
+ghost use Rattle.std.specs.Prelude.{◌≡◌, ◌+◌, ◌-◌, ◌*◌, ◌/◌, ◌<◌, ◌≤◌, IfOk, IfSome, Some, ℕ, [], ◌++◌, replicate, length, take, drop, count_by, filter, slice_get, slice_set, vec_capacity};
 ghost use Rattle.gj_compact.specs.Blocks.{lets_through, moments_between, AreBounds};
-ghost use Rattle.gj_compact.specs.Cells.{no_end};
+ghost use Rattle.gj_compact.specs.Cells.{Celled, with_end};
 
 use crate::counts::{Counts, NO_COUNTS};
 use crate::edge::End;
@@ -11,8 +11,8 @@ use gj_base::{Kind, Mask, Memory};
 use std::alloc::Global;
 use std::marker::Model;
 
-/// A list of ends of fixed length: their vertices, their kinds and their moments. Once it is sealed, and until it changes,
-/// the kinds before each block are counted, and the moments of each block are bounded.
+/// A list of ends, up to a fixed number: their vertices, their kinds and their moments. Once it is sealed, and until it
+/// changes, the kinds before each block are counted, and the moments of each block are bounded.
 #[derive(Drop)]
 pub struct Cells {
     vertices: Vec<u32>,
@@ -21,51 +21,60 @@ pub struct Cells {
     sums: Vec<Counts>,
     spans: Vec<Span>,
     sealed: bool,
+    room: u32,
 }
 
 impl Model for Cells {
-    ghost use Rattle.std.specs.Prelude.{◌≡◌, List, IsTrue, length};
-    ghost use Rattle.gj_compact.specs.declared.edge.End.{End};
-    ghost use Rattle.gj_compact.specs.Cells.{joined};
-    ghost use Rattle.gj_compact.specs.Spans.{AreSpans};
-    ghost use Rattle.gj_compact.specs.Sums.{AreSums, IsRoom};
+    ghost use Rattle.gj_compact.specs.Cells.{Celled, shown_by, IsCells};
 
-    ghost Value = { List End };
+    ghost Value = { Celled };
 
-    ghost view = { λ c. joined c.vertices.items c.kinds.items c.moments.items };
+    ghost view = { shown_by };
 
-    ghost invariant = { λ c. (length c.kinds.items ≡ length c.vertices.items) × (length c.moments.items ≡ length c.vertices.items) × IsRoom c.sums.items c.kinds.items × (IsTrue c.sealed → AreSums c.sums.items c.kinds.items) × (length c.spans.items ≡ length c.sums.items) × (IsTrue c.sealed → AreSpans c.spans.items c.moments.items) };
+    ghost invariant = { IsCells };
 }
 
-/// Copies `len` values of one column into another.
-fn copy_part<T: Copy>(back: &mut [T], to: usize, cells: &[T], from: usize, len: usize)
-    requires to { to + len ≤ length back.old }
-    requires from { from + len ≤ length cells.now }
-    ensures copied { take len (drop to back.new) ≡ take len (drop from cells.now) }
-    ensures before { take to back.new ≡ take to back.old }
+/// Makes a column that long. It is reserved, so that no memory is taken.
+fn fit<T: Copy>(column: &mut Vec<T>, len: usize, value: T)
+    requires { len ≤ vec_capacity column.old }
+    ensures items { column.new.items ≡ take len column.old.items ++ replicate (len - length column.old.items) value }
+    ensures len { length column.new.items ≡ len }
+    ensures capacity { vec_capacity column.old ≤ vec_capacity column.new }
 {
-    back[to..to + len].copy_from_slice(&cells[from..from + len]);
+    column.resize(len, value).unwrap();
+}
+
+/// Moves `len` values of a column to another place in it.
+fn move_part<T: Copy>(column: &mut [T], from: usize, to: usize, len: usize)
+    requires from { from + len ≤ length column.old }
+    requires to { to + len ≤ length column.old }
+    ensures copied { take len (drop to column.new) ≡ take len (drop from column.old) }
+    ensures before { take to column.new ≡ take to column.old }
+    ensures after { drop (to + len) column.new ≡ drop (to + len) column.old }
+{
+    column.copy_within(from..from + len, to);
 }
 
 impl Cells {
-    /// That many cells. It takes all memory that they will use.
+    /// No cells, with memory for that many. No other call takes any, and what is not used of it is not touched.
     pub fn new(alloc: Global, room: u32) -> Result<Cells, Memory>
         requires { room ≤ 8388608 }
-        ensures { IfOk result (λ cells. cells ≡ replicate room no_end) }
+        ensures ends { IfOk result (λ cells. cells.ends ≡ []) }
+        ensures room { IfOk result (λ cells. cells.room ≡ room) }
     {
-        let Ok(vertices) = vec![in alloc; 0; room as usize] else {
+        let Ok(vertices) = Vec::with_capacity(alloc, room as usize) else {
             return Err(Memory);
         };
-        let Ok(kinds) = vec![in alloc; Kind::Click; room as usize] else {
+        let Ok(kinds) = Vec::with_capacity(alloc, room as usize) else {
             return Err(Memory);
         };
-        let Ok(moments) = vec![in alloc; 0; room as usize] else {
+        let Ok(moments) = Vec::with_capacity(alloc, room as usize) else {
             return Err(Memory);
         };
-        let Ok(sums) = vec![in alloc; NO_COUNTS; room as usize / 64 + 1] else {
+        let Ok(sums) = Vec::with_capacity(alloc, room as usize / 64 + 1) else {
             return Err(Memory);
         };
-        let Ok(spans) = vec![in alloc; NO_SPAN; room as usize / 64 + 1] else {
+        let Ok(spans) = Vec::with_capacity(alloc, room as usize / 64 + 1) else {
             return Err(Memory);
         };
         Ok(Cells {
@@ -75,13 +84,14 @@ impl Cells {
             sums,
             spans,
             sealed: false,
+            room,
         })
     }
 
     /// How many cells there are.
     #[inline]
     pub fn len(&self) -> usize
-        ensures { result ≡ length self.now }
+        ensures { result ≡ length self.now.ends }
     {
         self.vertices.len()
     }
@@ -89,8 +99,8 @@ impl Cells {
     /// The end at a place.
     #[inline]
     pub fn get(&self, i: usize) -> End
-        requires { i < length self.now }
-        ensures { slice_get self.now i ≡ Some result }
+        requires { i < length self.now.ends }
+        ensures { slice_get self.now.ends i ≡ Some result }
     {
         End {
             vertex: self.vertices[i],
@@ -102,8 +112,8 @@ impl Cells {
     /// The vertex of the end at a place.
     #[inline]
     pub fn vertex(&self, i: usize) -> u32
-        requires { i < length self.now }
-        ensures { IfSome (slice_get self.now i) (λ end. result ≡ end.vertex) }
+        requires { i < length self.now.ends }
+        ensures { IfSome (slice_get self.now.ends i) (λ end. result ≡ end.vertex) }
     {
         self.vertices[i]
     }
@@ -111,16 +121,32 @@ impl Cells {
     /// Whether the mask lets the end at a place through. Its moment is read only where the mask has its kind.
     #[inline]
     fn lets_at(&self, i: usize, mask: Mask) -> bool
-        requires { i < length self.now }
-        ensures { IfSome (slice_get self.now i) (λ end. result ≡ lets_through mask end) }
+        requires { i < length self.now.ends }
+        ensures { IfSome (slice_get self.now.ends i) (λ end. result ≡ lets_through mask end) }
     {
         mask.has(self.kinds[i]) && mask.not_before() <= self.moments[i]
+    }
+
+    /// Makes that many cells of it: those that there are stay, and it is of no account what stands in others.
+    pub fn make(&mut self, count: u32)
+        requires { count ≤ self.old.room }
+        ensures front { (n : ℕ) → n ≤ count → n ≤ length self.old.ends → take n self.new.ends ≡ take n self.old.ends }
+        ensures long { length self.new.ends ≡ count }
+        ensures room { self.new.room ≡ self.old.room }
+    {
+        fit(&mut self.vertices, count as usize, 0);
+        fit(&mut self.kinds, count as usize, Kind::Click);
+        fit(&mut self.moments, count as usize, 0);
+        self.sealed = false;
     }
 
     /// Counts the kinds before each block, and bounds its moments. It takes time in the number of cells.
     pub fn seal(&mut self)
         ensures { self.new ≡ self.old }
     {
+        let blocks = self.kinds.len() / 64 + 1;
+        fit(&mut self.sums, blocks, NO_COUNTS);
+        fit(&mut self.spans, blocks, NO_SPAN);
         sum_blocks(&mut self.sums, &self.kinds);
         span_blocks(&mut self.spans, &self.moments);
         self.sealed = true;
@@ -130,8 +156,8 @@ impl Cells {
     /// are sealed.
     pub fn count(&self, from: usize, to: usize, mask: Mask) -> usize
         requires order { from ≤ to }
-        requires inside { to ≤ length self.now }
-        ensures exact { result ≡ count_by (lets_through mask) (take (to - from) (drop from self.now)) }
+        requires inside { to ≤ length self.now.ends }
+        ensures exact { result ≡ count_by (lets_through mask) (take (to - from) (drop from self.now.ends)) }
         ensures in_range { result ≤ to - from }
     {
         if to - from < 64 {
@@ -144,9 +170,9 @@ impl Cells {
     /// these are many and the cells are sealed.
     pub fn nth(&self, from: usize, to: usize, mask: Mask, i: usize) -> End
         requires order { from ≤ to }
-        requires inside { to ≤ length self.now }
-        requires index { i < count_by (lets_through mask) (take (to - from) (drop from self.now)) }
-        ensures { slice_get (filter (lets_through mask) (take (to - from) (drop from self.now))) i ≡ Some result }
+        requires inside { to ≤ length self.now.ends }
+        requires index { i < count_by (lets_through mask) (take (to - from) (drop from self.now.ends)) }
+        ensures { slice_get (filter (lets_through mask) (take (to - from) (drop from self.now.ends))) i ≡ Some result }
     {
         if to - from < 64 {
             return self.scan_nth(from, to, mask, i);
@@ -157,8 +183,8 @@ impl Cells {
     /// How many of the ends the mask lets through: by blocks, where the cells are sealed.
     fn count_long(&self, from: usize, to: usize, mask: Mask) -> usize
         requires order { from ≤ to }
-        requires inside { to ≤ length self.now }
-        ensures exact { result ≡ count_by (lets_through mask) (take (to - from) (drop from self.now)) }
+        requires inside { to ≤ length self.now.ends }
+        ensures exact { result ≡ count_by (lets_through mask) (take (to - from) (drop from self.now.ends)) }
         ensures in_range { result ≤ to - from }
     {
         if self.sealed {
@@ -174,9 +200,9 @@ impl Cells {
     /// One of the ends that the mask lets through: from a block on that is found by its counts, where the cells are sealed.
     fn nth_long(&self, from: usize, to: usize, mask: Mask, i: usize) -> End
         requires order { from ≤ to }
-        requires inside { to ≤ length self.now }
-        requires index { i < count_by (lets_through mask) (take (to - from) (drop from self.now)) }
-        ensures { slice_get (filter (lets_through mask) (take (to - from) (drop from self.now))) i ≡ Some result }
+        requires inside { to ≤ length self.now.ends }
+        requires index { i < count_by (lets_through mask) (take (to - from) (drop from self.now.ends)) }
+        ensures { slice_get (filter (lets_through mask) (take (to - from) (drop from self.now.ends))) i ≡ Some result }
     {
         if self.sealed {
             if mask.not_before() == 0 {
@@ -193,8 +219,8 @@ impl Cells {
     /// How many of the ends the mask lets through, block by block.
     fn count_by_blocks(&self, from: usize, to: usize, mask: Mask) -> usize
         requires order { from ≤ to }
-        requires inside { to ≤ length self.now }
-        ensures exact { result ≡ count_by (lets_through mask) (take (to - from) (drop from self.now)) }
+        requires inside { to ≤ length self.now.ends }
+        ensures exact { result ≡ count_by (lets_through mask) (take (to - from) (drop from self.now.ends)) }
         ensures in_range { result ≤ to - from }
     {
         let mut count = 0;
@@ -210,9 +236,9 @@ impl Cells {
     /// One of the ends that the mask lets through, in a block that is found by passing over those before it.
     fn nth_by_blocks(&self, from: usize, to: usize, mask: Mask, i: usize) -> End
         requires order { from ≤ to }
-        requires inside { to ≤ length self.now }
-        requires index { i < count_by (lets_through mask) (take (to - from) (drop from self.now)) }
-        ensures { slice_get (filter (lets_through mask) (take (to - from) (drop from self.now))) i ≡ Some result }
+        requires inside { to ≤ length self.now.ends }
+        requires index { i < count_by (lets_through mask) (take (to - from) (drop from self.now.ends)) }
+        ensures { slice_get (filter (lets_through mask) (take (to - from) (drop from self.now.ends))) i ≡ Some result }
     {
         let mut left = i;
         let mut at = from;
@@ -232,9 +258,9 @@ impl Cells {
     /// block's moments say so.
     fn count_in_block(&self, from: usize, to: usize, mask: Mask) -> usize
         requires order { from ≤ to }
-        requires inside { to ≤ length self.now }
+        requires inside { to ≤ length self.now.ends }
         requires block { to ≤ 64 * (from / 64) + 64 }
-        ensures exact { result ≡ count_by (lets_through mask) (take (to - from) (drop from self.now)) }
+        ensures exact { result ≡ count_by (lets_through mask) (take (to - from) (drop from self.now.ends)) }
         ensures in_range { result ≤ to - from }
     {
         if self.sealed {
@@ -254,8 +280,8 @@ impl Cells {
     /// moments.
     fn scan_count(&self, from: usize, to: usize, mask: Mask) -> usize
         requires order { from ≤ to }
-        requires inside { to ≤ length self.now }
-        ensures exact { result ≡ count_by (lets_through mask) (take (to - from) (drop from self.now)) }
+        requires inside { to ≤ length self.now.ends }
+        ensures exact { result ≡ count_by (lets_through mask) (take (to - from) (drop from self.now.ends)) }
         ensures in_range { result ≤ to - from }
     {
         if mask.not_before() == 0 {
@@ -267,8 +293,8 @@ impl Cells {
     /// How many of the ends the mask lets through, each looked at with its moment.
     fn scan_dated(&self, from: usize, to: usize, mask: Mask) -> usize
         requires order { from ≤ to }
-        requires inside { to ≤ length self.now }
-        ensures exact { result ≡ count_by (lets_through mask) (take (to - from) (drop from self.now)) }
+        requires inside { to ≤ length self.now.ends }
+        ensures exact { result ≡ count_by (lets_through mask) (take (to - from) (drop from self.now.ends)) }
         ensures in_range { result ≤ to - from }
     {
         let mut count = 0;
@@ -284,9 +310,9 @@ impl Cells {
     /// One of the ends that the mask lets through, looked at one by one.
     fn scan_nth(&self, from: usize, to: usize, mask: Mask, i: usize) -> End
         requires order { from ≤ to }
-        requires inside { to ≤ length self.now }
-        requires index { i < count_by (lets_through mask) (take (to - from) (drop from self.now)) }
-        ensures { slice_get (filter (lets_through mask) (take (to - from) (drop from self.now))) i ≡ Some result }
+        requires inside { to ≤ length self.now.ends }
+        requires index { i < count_by (lets_through mask) (take (to - from) (drop from self.now.ends)) }
+        ensures { slice_get (filter (lets_through mask) (take (to - from) (drop from self.now.ends))) i ≡ Some result }
     {
         let mut left = i;
         for k in from..to {
@@ -303,8 +329,8 @@ impl Cells {
     /// The least and the greatest moment of the ends from one place up to another.
     pub fn bounds(&self, from: usize, to: usize) -> (u64, u64)
         requires some { from < to }
-        requires inside { to ≤ length self.now }
-        ensures { AreBounds (moments_between from to self.now) result.0 result.1 }
+        requires inside { to ≤ length self.now.ends }
+        ensures { AreBounds (moments_between from to self.now.ends) result.0 result.1 }
     {
         let mut least = self.get(from).at;
         let mut greatest = least;
@@ -319,8 +345,8 @@ impl Cells {
     /// Puts the end at a place.
     #[inline]
     pub fn set(&mut self, i: usize, end: End)
-        requires { i < length self.old }
-        ensures { self.new ≡ slice_set self.old i end }
+        requires { i < length self.old.ends }
+        ensures { self.new ≡ with_end self.old i end }
     {
         self.vertices[i] = end.vertex;
         self.kinds[i] = end.kind;
@@ -328,20 +354,22 @@ impl Cells {
         self.sealed = false;
     }
 
-    /// Copies `len` ends of other cells to the place `to`.
-    pub fn copy_run(&mut self, to: usize, cells: &Cells, from: usize, len: usize)
-        requires to { to + len ≤ length self.old }
-        requires from { from + len ≤ length cells.now }
-        ensures copied { take len (drop to self.new) ≡ take len (drop from cells.now) }
-        ensures before { take to self.new ≡ take to self.old }
-        ensures long { length self.new ≡ length self.old }
+    /// Moves `len` ends to another place.
+    pub fn move_run(&mut self, from: usize, to: usize, len: usize)
+        requires from { from + len ≤ length self.old.ends }
+        requires to { to + len ≤ length self.old.ends }
+        ensures copied { take len (drop to self.new.ends) ≡ take len (drop from self.old.ends) }
+        ensures before { take to self.new.ends ≡ take to self.old.ends }
+        ensures after { drop (to + len) self.new.ends ≡ drop (to + len) self.old.ends }
+        ensures long { length self.new.ends ≡ length self.old.ends }
+        ensures room { self.new.room ≡ self.old.room }
     {
-        if len == 0 {
+        if from == to {
             return;
         }
-        copy_part(&mut self.vertices, to, &cells.vertices, from, len);
-        copy_part(&mut self.kinds, to, &cells.kinds, from, len);
-        copy_part(&mut self.moments, to, &cells.moments, from, len);
+        move_part(&mut self.vertices, from, to, len);
+        move_part(&mut self.kinds, from, to, len);
+        move_part(&mut self.moments, from, to, len);
         self.sealed = false;
     }
 }

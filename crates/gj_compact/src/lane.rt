@@ -1,9 +1,10 @@
 //! The ends of each vertex of one side, contiguous and oldest first.
-ghost use Rattle.std.specs.Prelude.{◌≡◌, ◌+◌, ◌-◌, ◌<◌, ◌≤◌, [], ◌++◌, IfOk, IfSome, replicate, length, slice_get, slice_index_or, Some};
+ghost use Rattle.std.specs.Prelude.{◌≡◌, ◌+◌, ◌-◌, ◌<◌, ◌≤◌, [], ◌++◌, IfOk, IfSome, replicate, length, slice_get, slice_index_or, Some, vec_capacity};
 ghost use Rattle.std.specs.Prelude.{ℕ, List, map, filter, take, drop, count_by, sum_by};
 ghost use Rattle.gj_compact.specs.Blocks.{lets_through, moments_between, AreBounds};
 ghost use Rattle.gj_compact.specs.declared.lane.Row.{Row};
-ghost use Rattle.gj_compact.specs.Lanes.{run_of, pushed, popped, noted, opened, emptied, wanted, want_of, row_run, IsLane, unused_row};
+ghost use Rattle.gj_compact.specs.Lanes.{run_of, pushed, popped, noted, opened, emptied, wanted, want_of, row_run, AreLaid, unused_row};
+ghost use Rattle.gj_compact.specs.Moves.{len_of, ArePacked, AreDense};
 
 use crate::cells::Cells;
 use crate::edge::End;
@@ -24,84 +25,158 @@ struct Row {
 /// The ends of each vertex of one side.
 #[derive(Drop)]
 pub struct Lane {
+    // those of the vertices up to the greatest that was noted
     rows: Vec<Row>,
-    // nothing was noted for the vertices from here on
-    used: usize,
+    vertices: u32,
     cells: Cells,
-    back: Cells,
 }
 
 impl Model for Lane {
+    ghost use Rattle.std.specs.Prelude.{◌≤◌, vec_capacity};
     ghost use Rattle.gj_compact.specs.Lanes.{Laned, shown_by, IsLane};
 
     ghost Value = { Laned };
 
-    ghost view = { λ l. shown_by l.rows.items l.cells };
+    ghost view = { λ l. shown_by l.rows.items l.vertices l.cells };
 
-    ghost invariant = { λ l. IsLane l.rows.items l.used l.cells l.back };
+    ghost invariant = { λ l. IsLane l.rows.items l.vertices l.cells × (l.vertices ≤ vec_capacity l.rows) };
 }
 
 /// The row of a vertex for which nothing was noted, behind that many cells.
-fn unused(room: u32) -> Row
-    ensures { result ≡ unused_row room }
+fn unused(size: u32) -> Row
+    ensures { result ≡ unused_row size }
 {
     Row {
-        start: room,
+        start: size,
         len: 0,
         spare: 0,
         fresh: 0,
     }
 }
 
-/// Makes the first rows those of vertices for which nothing was noted.
-fn forget(rows: &mut [Row], used: usize, row: Row)
-    requires { used ≤ length rows.old }
-    ensures { rows.new ≡ replicate used row ++ drop used rows.old }
+/// The row of a vertex.
+#[inline]
+fn row_of(rows: &[Row], v: u32) -> Row
+    ensures { result ≡ slice_index_or rows.now v (unused_row 0) }
 {
-    rows[..used].fill(row);
+    if (v as usize) < rows.len() {
+        rows[v as usize]
+    } else {
+        unused(0)
+    }
 }
 
-/// Lays the runs of the first rows out anew in `back`, each with room for what was noted. The other rows have none.
-fn lay_out(rows: &mut [Row], used: usize, cells: &Cells, back: &mut Cells)
-    requires lane { IsLane rows.old used cells.now back.old }
-    requires fits { sum_by want_of rows.old ≤ length back.old }
-    ensures lane { IsLane rows.new used back.new cells.now }
-    ensures runs { map (row_run back.new) rows.new ≡ map (row_run cells.now) rows.old }
-    ensures spare { map (λ (row : Row). row.spare) rows.new ≡ map (λ (row : Row). row.fresh) rows.old }
-    ensures fresh { map (λ (row : Row). row.fresh) rows.new ≡ map (λ (row : Row). 0) rows.old }
+/// Makes rows up to that of the vertex.
+#[inline]
+fn reach(rows: &mut Vec<Row>, v: u32, row: Row)
+    requires { v < vec_capacity rows.old }
+    ensures rows { rows.new.items ≡ rows.old.items ++ replicate (v + 1 - length rows.old.items) row }
+    ensures capacity { vec_capacity rows.old ≤ vec_capacity rows.new }
+{
+    if rows.len() <= v as usize {
+        rows.resize(v as usize + 1, row).unwrap();
+    }
+}
+
+/// How many cells the rows want: for what they hold, and for what was noted.
+fn want(rows: &[Row]) -> u32
+    requires { sum_by want_of rows.now ≤ 8388608 }
+    ensures { result ≡ sum_by want_of rows.now }
+{
+    let mut want = 0;
+    for row in rows {
+        want += row.len + row.fresh;
+    }
+    want
+}
+
+/// Puts each run behind the one before, with no room between.
+fn pack(rows: &mut [Row], cells: &mut Cells)
+    requires laid { AreLaid rows.old (length cells.old.ends) }
+    requires few { length cells.old.ends ≤ 8388608 }
+    ensures packed { ArePacked rows.old rows.new cells.old.ends cells.new.ends }
+    ensures inside { sum_by len_of rows.old ≤ length cells.new.ends }
+    ensures long { length cells.new.ends ≡ length cells.old.ends }
+    ensures room { cells.new.room ≡ cells.old.room }
 {
     let mut next = 0;
-    for v in 0..used {
+    for v in 0..rows.len() {
         let row = rows[v];
-        back.copy_run(next as usize, cells, row.start as usize, row.len as usize);
+        cells.move_run(row.start as usize, next as usize, row.len as usize);
+        rows[v] = Row {
+            start: next,
+            len: row.len,
+            spare: 0,
+            fresh: row.fresh,
+        };
+        next += row.len;
+    }
+}
+
+/// Gives each run its room, from the last one to the first.
+fn spread(rows: &mut [Row], cells: &mut Cells)
+    requires dense { AreDense rows.old }
+    requires size { length cells.old.ends ≡ sum_by want_of rows.old }
+    requires few { length cells.old.ends ≤ 8388608 }
+    ensures laid { AreLaid rows.new (length cells.new.ends) }
+    ensures runs { map (row_run cells.new.ends) rows.new ≡ map (row_run cells.old.ends) rows.old }
+    ensures spare { map (λ (row : Row). row.spare) rows.new ≡ map (λ (row : Row). row.fresh) rows.old }
+    ensures fresh { map (λ (row : Row). row.fresh) rows.new ≡ map (λ (row : Row). 0) rows.old }
+    ensures long { length cells.new.ends ≡ length cells.old.ends }
+    ensures room { cells.new.room ≡ cells.old.room }
+{
+    let mut next = cells.len() as u32;
+    let mut v = rows.len();
+    while 0 < v {
+        v -= 1;
+        let row = rows[v];
+        next -= row.len + row.fresh;
+        cells.move_run(row.start as usize, next as usize, row.len as usize);
         rows[v] = Row {
             start: next,
             len: row.len,
             spare: row.fresh,
             fresh: 0,
         };
-        next += row.len + row.fresh;
     }
 }
 
+/// Lays the runs of the rows out anew, each with room for what was noted.
+fn lay_out(rows: &mut [Row], cells: &mut Cells)
+    requires laid { AreLaid rows.old (length cells.old.ends) }
+    requires few { length cells.old.ends ≤ cells.old.room }
+    requires fits { sum_by want_of rows.old ≤ cells.old.room }
+    requires small { cells.old.room ≤ 8388608 }
+    ensures laid { AreLaid rows.new (length cells.new.ends) }
+    ensures runs { map (row_run cells.new.ends) rows.new ≡ map (row_run cells.old.ends) rows.old }
+    ensures spare { map (λ (row : Row). row.spare) rows.new ≡ map (λ (row : Row). row.fresh) rows.old }
+    ensures fresh { map (λ (row : Row). row.fresh) rows.new ≡ map (λ (row : Row). 0) rows.old }
+    ensures size { length cells.new.ends ≡ sum_by want_of rows.old }
+    ensures room { cells.new.room ≡ cells.old.room }
+{
+    let count = want(rows);
+    pack(rows, cells);
+    cells.make(count);
+    spread(rows, cells);
+}
+
 impl Lane {
-    /// A lane of `vertices` vertices without ends, for `room` ends in all. It takes all memory that the lane will use.
+    /// A lane of `vertices` vertices without ends, for `room` ends in all. It reserves all memory that the lane will use, and
+    /// touches none of it.
     pub fn new(alloc: Global, vertices: u32, room: u32) -> Result<Lane, Memory>
         requires { room ≤ 8388608 }
         ensures runs { IfOk result (λ lane. lane.runs ≡ replicate vertices []) }
         ensures fresh { IfOk result (λ lane. lane.fresh ≡ replicate vertices 0) }
         ensures room { IfOk result (λ lane. lane.room ≡ room) }
     {
-        let Ok(rows) = vec![in alloc; unused(room); vertices as usize] else {
+        let Ok(rows) = Vec::with_capacity(alloc, vertices as usize) else {
             return Err(Memory);
         };
         let cells = Cells::new(alloc, room)?;
-        let back = Cells::new(alloc, room)?;
         Ok(Lane {
             rows,
-            used: 0,
+            vertices,
             cells,
-            back,
         })
     }
 
@@ -111,7 +186,7 @@ impl Lane {
         requires { v < length self.now.runs }
         ensures { result ≡ length (run_of self.now.runs v) }
     {
-        self.rows[v as usize].len
+        row_of(&self.rows, v).len
     }
 
     /// How many more were noted.
@@ -120,7 +195,7 @@ impl Lane {
         requires { v < length self.now.runs }
         ensures { result ≡ slice_index_or self.now.fresh v 0 }
     {
-        self.rows[v as usize].fresh
+        row_of(&self.rows, v).fresh
     }
 
     /// One of the ends, by its index.
@@ -152,7 +227,7 @@ impl Lane {
         ensures exact { result ≡ count_by (lets_through mask) (take (to - from) (drop from (run_of self.now.runs v))) }
         ensures in_range { result ≤ to - from }
     {
-        let start = self.rows[v as usize].start;
+        let start = row_of(&self.rows, v).start;
         self.cells
             .count((start + from) as usize, (start + to) as usize, mask) as u32
     }
@@ -188,8 +263,9 @@ impl Lane {
         requires few { slice_index_or self.old.fresh v 0 < 8388608 }
         ensures { self.new ≡ noted self.old v }
     {
+        let size = self.cells.len() as u32;
+        reach(&mut self.rows, v, unused(size));
         self.rows[v as usize].fresh += 1;
-        self.used = self.used.max(v as usize + 1);
     }
 
     /// Drops the first end of the vertex.
@@ -226,20 +302,18 @@ impl Lane {
     }
 
     /// Counts the kinds before each block of cells and bounds its moments, which `count` and `nth` use until the next `push`
-    /// or `open`. It takes time in the room.
+    /// or `open`. It takes time in the number of cells that `open` made.
     pub fn seal(&mut self)
         ensures { self.new ≡ self.old }
     {
         self.cells.seal();
     }
 
-    /// Forgets all ends and notes. It takes time in the greatest vertex that was noted since it last did.
+    /// Forgets all ends and notes.
     pub fn clear(&mut self)
         ensures { self.new ≡ emptied self.old }
     {
-        let room = self.cells.len() as u32;
-        forget(&mut self.rows, self.used, unused(room));
-        self.used = 0;
+        self.rows.clear();
     }
 
     /// Gives each vertex room for what was noted, so that it can be pushed. It takes time in the number of all ends and
@@ -248,7 +322,6 @@ impl Lane {
         requires { wanted self.old ≤ self.old.room }
         ensures { self.new ≡ opened self.old }
     {
-        lay_out(&mut self.rows, self.used, &self.cells, &mut self.back);
-        std::mem::swap(&mut self.cells, &mut self.back);
+        lay_out(&mut self.rows, &mut self.cells);
     }
 }

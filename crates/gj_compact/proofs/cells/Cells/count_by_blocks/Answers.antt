@@ -6,7 +6,7 @@ use Rattle.gj_compact.proofs.cells.Cells.count_by_blocks.Goals as goal
 
 pub loop-at-preserved : goal.loop-at-preserved
 loop-at-preserved c =
-    let cells : List End = c.args.self.now in
+    let cells : List End = c.args.self.now.ends in
     let next : ℕ = c.loop-at.at + c.min.result in
     let low : c.args.from ≤ c.loop-at.at = c.loop-at.invariant.from in
     let order : c.loop-at.at ≤ next = omega arith in

@@ -7,7 +7,7 @@ invariant-loop-at l = record {
   from : l.from ≤ l.at;
   to : l.at ≤ l.to;
   few : l.count ≤ l.at - l.from;
-  counted : l.count ≡ count_by (lets_through l.mask) (take (l.at - l.from) (drop l.from l.self));
+  counted : l.count ≡ count_by (lets_through l.mask) (take (l.at - l.from) (drop l.from l.self.ends));
 }
 
 abbrev pub decreases-loop-at : goal.decreases-loop-at

@@ -6,7 +6,7 @@ abbrev pub invariant-loop-at : goal.invariant-loop-at
 invariant-loop-at l = record {
   from : l.from ≤ l.at;
   to : l.at ≤ l.to;
-  passed : count_by (lets_through l.mask) (take (l.at - l.from) (drop l.from l.self)) + l.left ≡ l.i;
+  passed : count_by (lets_through l.mask) (take (l.at - l.from) (drop l.from l.self.ends)) + l.left ≡ l.i;
 }
 
 abbrev pub decreases-loop-at : goal.decreases-loop-at

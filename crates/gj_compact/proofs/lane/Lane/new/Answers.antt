@@ -1,15 +1,10 @@
-use Rattle.std.proofs.Common.{ℕ, map, replicate, ap, ◌∙◌}
-use Rattle.gj_compact.specs.declared.lane.Row.{Row}
-use Rattle.gj_compact.specs.Lanes.{row_run, unused_row}
-use Rattle.gj_compact.proofs.LaneLemmas.{map-replicate}
+use Rattle.std.proofs.Common.{ap}
+use Rattle.gj_compact.specs.Lanes.{Laned}
+use Rattle.gj_compact.proofs.RowLemmas.{shown_none}
 use Rattle.gj_compact.proofs.lane.Lane.new.Goals as goal
 
 pub returns-clause-fresh : goal.returns-clause-fresh
-returns-clause-fresh c =
-    let f : Row → ℕ = λ r. r.fresh in
-    ap (map f) (c.in-Ok.ensures.items_if_clones_equal (λ y e. e) ∙ ap (replicate c.args.vertices) c.unused.ensures) ∙ map-replicate f (unused_row c.args.room) c.args.vertices
+returns-clause-fresh c = ap (λ (l : Laned). l.fresh) (shown_none c.in-Ok.rows.items c.args.vertices c.in_ok-cells.cells c.in-Ok.ensures.items)
 
 pub returns-clause-runs : goal.returns-clause-runs
-returns-clause-runs c =
-    ap (map (row_run c.in_ok-cells.cells)) (c.in-Ok.ensures.items_if_clones_equal (λ y e. e) ∙ ap (replicate c.args.vertices) c.unused.ensures)
-    ∙ map-replicate (row_run c.in_ok-cells.cells) (unused_row c.args.room) c.args.vertices
+returns-clause-runs c = ap (λ (l : Laned). l.runs) (shown_none c.in-Ok.rows.items c.args.vertices c.in_ok-cells.cells c.in-Ok.ensures.items)

@@ -1,34 +1,57 @@
-use Rattle.std.proofs.Common.{◌≡◌, ◌<◌, ◌+◌, ◌-◌, ℕ, List, length, filter, take, drop, slice_get, ap, sym, ◌∙◌, arith}
-use Rattle.std.proofs.lemmas.List.{length-map}
+use Rattle.std.proofs.Common.{◌≡◌, ◌+◌, ◌-◌, ◌<◌, ℕ, List, length, filter, take, drop, slice_get, arith, ap, sym, ◌∙◌}
+use Rattle.std.proofs.lemmas.List.Sums.{count_by-le-length}
+use Rattle.gj_compact.specs.declared.lane.Row.{Row}
 use Rattle.gj_compact.specs.declared.edge.End.{End}
 use Rattle.gj_compact.specs.Blocks.{lets_through}
-use Rattle.gj_compact.specs.Lanes.{Laned, run_of, row_run, row_end}
-use Rattle.gj_compact.proofs.LaneLemmas.{run_is}
+use Rattle.gj_compact.specs.Lanes.{run_of}
+use Rattle.gj_compact.proofs.RowLemmas.{row_there, below_run}
 use Rattle.gj_compact.proofs.lane.Lane.nth.Goals as goal
+
+pub index-row-requires : goal.index-row-requires
+index-row-requires c =
+    let rows = c.self.inside.rows.items in
+    let n : ℕ = c.self.inside.vertices in
+    let cells = c.self.inside.cells in
+    let lane = c.args.self.now in
+    let v : ℕ = c.args.v in
+    let below : v < length rows = below_run rows n cells lane v c.self.invariant.0 c.self.view_is c.requires.vertex (omega (arith, c.requires.index, count_by-le-length (lets_through c.args.mask) (run_of lane.runs v))) in
+    omega (arith, below, c.self.inside.rows.ok)
 
 pub nth-requires-clause-inside : goal.nth-requires-clause-inside
 nth-requires-clause-inside c =
     let rows = c.self.inside.rows.items in
-    let row = c.index-row.result.now in
-    let below : c.args.v < length rows = omega (arith, c.requires.vertex, ap (λ (l : Laned). length l.runs) c.self.view_is, length-map rows (row_run c.self.inside.cells)) in
-    omega (arith, c.self.invariant.laid.within c.args.v row below, ap row_end c.index-row.ensures)
+    let n : ℕ = c.self.inside.vertices in
+    let cells = c.self.inside.cells in
+    let lane = c.args.self.now in
+    let v : ℕ = c.args.v in
+    let below : v < length rows = below_run rows n cells lane v c.self.invariant.0 c.self.view_is c.requires.vertex (omega (arith, c.requires.index, count_by-le-length (lets_through c.args.mask) (run_of lane.runs v))) in
+    let row : Row = c.index-row.result.now in
+    let found = row_there rows n cells lane v row c.self.invariant.0 c.self.view_is c.requires.vertex below c.index-row.ensures in
+    omega (arith, found.within)
 
 pub nth-requires-clause-index : goal.nth-requires-clause-index
 nth-requires-clause-index c =
     let rows = c.self.inside.rows.items in
+    let n : ℕ = c.self.inside.vertices in
     let cells = c.self.inside.cells in
-    let row = c.index-row.result.now in
-    let below : c.args.v < length rows = omega (arith, c.requires.vertex, ap (λ (l : Laned). length l.runs) c.self.view_is, length-map rows (row_run cells)) in
-    let run : row_run cells row ≡ run_of c.args.self.now.runs c.args.v = run_is rows cells c.args.v row below c.index-row.ensures ∙ ap (λ (l : Laned). run_of l.runs c.args.v) c.self.view_is in
-    let n : row.start + row.len - row.start ≡ row.len = omega arith in
-    rw (n, run) c.requires.index
+    let lane = c.args.self.now in
+    let v : ℕ = c.args.v in
+    let below : v < length rows = below_run rows n cells lane v c.self.invariant.0 c.self.view_is c.requires.vertex (omega (arith, c.requires.index, count_by-le-length (lets_through c.args.mask) (run_of lane.runs v))) in
+    let row : Row = c.index-row.result.now in
+    let found = row_there rows n cells lane v row c.self.invariant.0 c.self.view_is c.requires.vertex below c.index-row.ensures in
+    let k : row.start + row.len - row.start ≡ row.len = omega arith in
+    let run = found.run in
+    rw (k, run) c.requires.index
 
 pub returns : goal.returns
 returns c =
     let rows = c.self.inside.rows.items in
+    let n : ℕ = c.self.inside.vertices in
     let cells = c.self.inside.cells in
-    let row = c.index-row.result.now in
-    let below : c.args.v < length rows = omega (arith, c.requires.vertex, ap (λ (l : Laned). length l.runs) c.self.view_is, length-map rows (row_run cells)) in
-    let run : row_run cells row ≡ run_of c.args.self.now.runs c.args.v = run_is rows cells c.args.v row below c.index-row.ensures ∙ ap (λ (l : Laned). run_of l.runs c.args.v) c.self.view_is in
-    let n : row.start + row.len - row.start ≡ row.len = omega arith in
-    ap (λ (l : List End). slice_get (filter (lets_through c.args.mask) l) c.args.i) (sym (ap (λ (k : ℕ). take k (drop row.start cells)) n ∙ run)) ∙ c.nth.ensures
+    let lane = c.args.self.now in
+    let v : ℕ = c.args.v in
+    let below : v < length rows = below_run rows n cells lane v c.self.invariant.0 c.self.view_is c.requires.vertex (omega (arith, c.requires.index, count_by-le-length (lets_through c.args.mask) (run_of lane.runs v))) in
+    let row : Row = c.index-row.result.now in
+    let found = row_there rows n cells lane v row c.self.invariant.0 c.self.view_is c.requires.vertex below c.index-row.ensures in
+    let k : row.start + row.len - row.start ≡ row.len = omega arith in
+    ap (λ (l : List End). slice_get (filter (lets_through c.args.mask) l) c.args.i) (sym (ap (λ (m : ℕ). take m (drop row.start cells.ends)) k ∙ found.run)) ∙ c.nth.ensures

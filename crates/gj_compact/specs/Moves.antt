@@ -1,0 +1,24 @@
+-- Runs that are laid out anew in one array. Private to this crate: no public clause cites it.
+use Rattle.std.specs.Prelude.{◌≡◌, ℕ, ◌<◌, List, length, take, sum_by, slice_index_or}
+use Rattle.gj_compact.specs.declared.lane.Row.{Row}
+use Rattle.gj_compact.specs.declared.edge.End.{End}
+use Rattle.gj_compact.specs.Lanes.{row_run}
+
+-- how many ends the row has
+abbrev pub len_of : Row → ℕ
+len_of row = row.len
+
+-- the row has the same ends and notes, and its ends lie from a place on
+pub record IsPacked (old new : Row) (before after : List End) (place : ℕ) : Type 0 where
+  pub start : new.start ≡ place
+  pub len : new.len ≡ old.len
+  pub fresh : new.fresh ≡ old.fresh
+  pub run : row_run after new ≡ row_run before old
+
+-- the same rows, each one's ends behind those of the row before
+abbrev pub ArePacked : List Row → List Row → List End → List End → Type 0
+ArePacked old new before after = (v : ℕ) (d : Row) → v < length old → IsPacked (slice_index_or old v d) (slice_index_or new v d) before after (sum_by len_of (take v old))
+
+-- each row's ends lie behind those of the row before, with no cell between
+abbrev pub AreDense : List Row → Type 0
+AreDense rows = (v : ℕ) (d : Row) → v < length rows → (slice_index_or rows v d).start ≡ sum_by len_of (take v rows)
