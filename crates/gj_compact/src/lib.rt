@@ -1,8 +1,9 @@
 //! The contiguous form: the ends of each vertex beside each other, oldest first.
 //!
 //! Contracts see a `Lane` as one list of ends a vertex, and a `CompactSegment` as the list of its interactions. `new` takes
-//! all memory; no other call takes any. Once a lane is sealed, the kinds before each block of 64 cells are counted and the
-//! moments of each block bounded, so that a heavy vertex is counted and searched by blocks; no clause speaks of that.
+//! all memory, which is touched as it is used; no other call takes any. Once a lane is sealed, the kinds before each block
+//! of 64 cells are counted and the moments of each block bounded, so that a heavy vertex is counted and searched by blocks;
+//! no clause speaks of that.
 #![tactic(auto)]
 
 mod cells;
