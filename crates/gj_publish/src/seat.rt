@@ -120,6 +120,13 @@ impl<W: Grow + Drop, J: Opening> Seat<W, J> {
         self.number
     }
 
+    /// What it saw, to be compared with other fronts or confirmed by the writer.
+    pub fn front(&self) -> &Front<J>
+        ensures { result.now ≡ self.now.front }
+    {
+        &self.front
+    }
+
     /// The length of the history that it saw.
     pub fn seen(&self) -> u64
         ensures exact { result ≡ length_of self.now.front }
@@ -179,13 +186,6 @@ impl<W: Grow + Drop, J: Opening> Seat<W, J> {
         ledger.audit(&mut self.share);
         ledger.add(&mut self.share, count);
         self.posted += count;
-    }
-
-    // What the seat saw.
-    pub(crate) fn front(&self) -> &Front<J>
-        ensures { result.now ≡ self.now.front }
-    {
-        &self.front
     }
 
     // The share, with what was posted.

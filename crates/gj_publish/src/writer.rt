@@ -140,21 +140,15 @@ impl<J: Opening, C: Copies<Operation = Batch<J>>, K: Keeper + Drop> Writer<J, C,
         self.book.conf()
     }
 
-    /// Confirms that what the seat saw is kept, as it is of each seat of the opening at all times: the accepted history
-    /// begins with it, and the keeper, where it tells its rows, keeps that history. It takes no memory; `Memory` stands for
-    /// a log of 2^64 batches.
-    pub fn confirm<W: Grow + Drop>(&mut self, seat: &Seat<W, J>) -> Result<(), Memory>
-        ensures ok { OnOk result (Begins seat.now.front self.new.accepted) }
+    /// Confirms that the accepted history begins with a front, as it does with each front of the opening at all times; and
+    /// the keeper, where it tells its rows, keeps that history. It takes no memory.
+    pub fn confirm(&mut self, front: &Front<J>)
+        ensures begins { Begins front.now self.new.accepted }
         ensures kept { RowsAre J.conf self.new.kept self.new.accepted }
         ensures others { (self.new.accepted ≡ self.old.accepted) × (self.new.published ≡ self.old.published) × (self.new.noted ≡ self.old.noted) × (self.new.start ≡ self.old.start) × (self.new.kept ≡ self.old.kept) × (self.new.faults ≡ self.old.faults) × (self.new.steady ≡ self.old.steady) }
     {
-        let ready = self.reserve();
         let _ = self.length();
-        if !ready {
-            return Err(Memory);
-        }
-        self.scribe.confirm(seat.front());
-        Ok(())
+        self.scribe.confirm(front);
     }
 
     /// Shows a compaction, which changes no history and no front. It may wait for looks that began before.

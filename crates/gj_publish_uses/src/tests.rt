@@ -70,7 +70,7 @@ fn sixteen<J: Opening, R: Wait + Drop>(
 ) -> Option<Seen> {
     let receipt = writer.post(poster, clicks(alloc, 1, 16)?).ok()?;
     writer.compact().ok()?;
-    writer.confirm(other).ok()?;
+    writer.confirm(other.front());
     Some(Seen {
         to: receipt.to,
         poster: poster.look(|graph: &ListGraph| graph.length()).ok()?,
