@@ -7,7 +7,7 @@ use Rattle.std.proofs.lemmas.List.Sums.{sum_by_more, sum_by-cons, sum_by-append,
 use Rattle.gj_compact.specs.declared.lane.Row.{Row}
 use Rattle.gj_compact.specs.declared.edge.End.{End}
 use Rattle.gj_compact.specs.Lanes.{AreLaid, all_rows, laned, unused_row, row_run, row_end, want_of, wanted, opened}
-use Rattle.gj_compact.specs.Moves.{len_of, AreDense}
+use Rattle.gj_compact.specs.Moves.{AreLow}
 use Rattle.gj_compact.proofs.PackLemmas.{run_kept, rest_kept, map_same}
 use Rattle.gj_compact.proofs.RowLemmas.{laid_behind, map_all}
 
@@ -47,30 +47,18 @@ spread_none old cells v next e is = record {
 front_less : (xs ys : List End) (n m : ℕ) → n ≤ m → take m xs ≡ take m ys → take n xs ≡ take n ys
 front_less xs ys n m less same = sym (take-take n m xs less) ∙ (ap (take n) same ∙ take-take n m ys less)
 
--- what a vertex wants is no less than what it has
-len_most : (rows : List Row) (n : ℕ) → sum_by len_of (take n rows) ≤ sum_by want_of (take n rows)
-len_most rows zero = omega arith
-len_most [] (suc n) = omega arith
-len_most (row ∷ rows) (suc n) =
-    let rest = len_most rows n in
-    omega (arith, rest, sum_by-cons len_of row (take n rows), sum_by-cons want_of row (take n rows))
-
--- the ends of a row lie before what those up to it want
-pub dense_before : (old : List Row) (v : ℕ) (row : Row) → AreDense old → v < length old → row ≡ get_or old v row → row.start + row.len ≤ sum_by want_of (take v old) + row.len
-dense_before old v row dense below is = omega (arith, dense v row below, ap (λ (r : Row). r.start) is, len_most old v)
-
-pub spread_more : (old rows : List Row) (cells0 cells cells' : List End) (v next : ℕ) (row : Row) → SpreadFrom old rows cells0 cells (v + 1) (next + (row.len + row.fresh)) → AreDense old → v < length old
+pub spread_more : (old rows : List Row) (cells0 cells cells' : List End) (v next : ℕ) (row : Row) → SpreadFrom old rows cells0 cells (v + 1) (next + (row.len + row.fresh)) → AreLow old → v < length old
     → next + (row.len + row.fresh) ≤ length cells0
     → row ≡ get_or rows v row → take row.len (drop next cells') ≡ take row.len (drop row.start cells) → take next cells' ≡ take next cells
     → drop (next + row.len) cells' ≡ drop (next + row.len) cells → length cells' ≡ length cells
     → SpreadFrom old (set rows v (record { start = next; len = row.len; spare = row.fresh; fresh = 0 })) cells0 cells' v next
-spread_more old rows cells0 cells cells' v next row so dense below fits is copied before after size =
+spread_more old rows cells0 cells cells' v next row so low_all below fits is copied before after size =
     let new : Row = record { start = next; len = row.len; spare = row.fresh; fresh = 0 } in
     let limit : ℕ = next + (row.len + row.fresh) in
     let in_rows : v < length rows = omega (arith, below, so.long) in
     let was : row ≡ get_or old v row = is ∙ so.rest v row (omega arith) in
     let next_is : next ≡ sum_by want_of (take v old) = omega (arith, so.next_is, sum_by_more want_of old v row below, ap want_of was) in
-    let inside : row.start + row.len ≤ limit = omega (arith, dense_before old v row dense below was, next_is) in
+    let inside : row.start + row.len ≤ limit = omega (arith, low_all v row below, ap (λ (r : Row). r.start) was, next_is) in
     let run : take row.len (drop next cells') ≡ take row.len (drop row.start cells0) = copied ∙ run_kept cells cells0 row.start row.len limit inside so.front in
     let front : take next cells ≡ take next cells0 = front_less cells cells0 next limit (omega arith) so.front in
     let at_v : (d : Row) → get_or (set rows v new) v d ≡ new = λ d. get_or-set_same rows v new d in_rows in
@@ -122,34 +110,34 @@ pub record IsNext (row : Row) (next size : ℕ) : Type 0 where
   pub few : next ≤ size
   pub inside : row.start + row.len ≤ next
 
-next_row : (old rows : List Row) (cells0 cells : List End) (v next : ℕ) (row : Row) → SpreadFrom old rows cells0 cells (v + 1) next → AreDense old → length cells0 ≡ sum_by want_of old → v < length old
+next_row : (old rows : List Row) (cells0 cells : List End) (v next : ℕ) (row : Row) → SpreadFrom old rows cells0 cells (v + 1) next → AreLow old → length cells0 ≡ sum_by want_of old → v < length old
     → row ≡ get_or rows v row → IsNext row next (length cells0)
-next_row old rows cells0 cells v next row so dense size below is =
+next_row old rows cells0 cells v next row so low_all size below is =
     let was : row ≡ get_or old v row = is ∙ so.rest v row (omega arith) in
     let more = sum_by_more want_of old v row below in
     record {
       wants = omega (arith, so.next_is, more, ap want_of was);
       few = omega (arith, so.next_is, sum_by-take-drop want_of old (v + 1), size);
-      inside = omega (arith, dense_before old v row dense below was, so.next_is, more, ap want_of was);
+      inside = omega (arith, low_all v row below, ap (λ (r : Row). r.start) was, so.next_is, more, ap want_of was);
     }
 
-pub spread_next : (old rows : List Row) (cells0 cells : List End) (v next : ℕ) (row : Row) → SpreadFrom old rows cells0 cells v next → AreDense old → length cells0 ≡ sum_by want_of old
+pub spread_next : (old rows : List Row) (cells0 cells : List End) (v next : ℕ) (row : Row) → SpreadFrom old rows cells0 cells v next → AreLow old → length cells0 ≡ sum_by want_of old
     → 0 < v → v ≤ length old → row ≡ get_or rows (v - 1) row → IsNext row next (length cells0)
-spread_next old rows cells0 cells v next row so dense size any most is =
+spread_next old rows cells0 cells v next row so low_all size any most is =
     let e : v ≡ v - 1 + 1 = omega arith in
-    next_row old rows cells0 cells (v - 1) next row (subst (λ (n : ℕ). SpreadFrom old rows cells0 cells n next) e so) dense size (omega arith) is
+    next_row old rows cells0 cells (v - 1) next row (subst (λ (n : ℕ). SpreadFrom old rows cells0 cells n next) e so) low_all size (omega arith) is
 
-pub spread_step : (old rows : List Row) (cells0 cells cells' : List End) (v next : ℕ) (row : Row) → SpreadFrom old rows cells0 cells v next → AreDense old → length cells0 ≡ sum_by want_of old
+pub spread_step : (old rows : List Row) (cells0 cells cells' : List End) (v next : ℕ) (row : Row) → SpreadFrom old rows cells0 cells v next → AreLow old → length cells0 ≡ sum_by want_of old
     → 0 < v → v ≤ length old → row ≡ get_or rows (v - 1) row
     → take row.len (drop (next - (row.len + row.fresh)) cells') ≡ take row.len (drop row.start cells) → take (next - (row.len + row.fresh)) cells' ≡ take (next - (row.len + row.fresh)) cells
     → drop (next - (row.len + row.fresh) + row.len) cells' ≡ drop (next - (row.len + row.fresh) + row.len) cells → length cells' ≡ length cells
     → SpreadFrom old (set rows (v - 1) (record { start = next - (row.len + row.fresh); len = row.len; spare = row.fresh; fresh = 0 })) cells0 cells' (v - 1) (next - (row.len + row.fresh))
-spread_step old rows cells0 cells cells' v next row so dense size any most is copied before after same =
+spread_step old rows cells0 cells cells' v next row so low_all size any most is copied before after same =
     let e : v ≡ v - 1 + 1 = omega arith in
-    let known = spread_next old rows cells0 cells v next row so dense size any most is in
+    let known = spread_next old rows cells0 cells v next row so low_all size any most is in
     let e' : next ≡ next - (row.len + row.fresh) + (row.len + row.fresh) = omega (arith, known.wants) in
     let so' = subst (λ (n : ℕ). SpreadFrom old rows cells0 cells n next) e so in
-    spread_more old rows cells0 cells cells' (v - 1) (next - (row.len + row.fresh)) row (subst (λ (m : ℕ). SpreadFrom old rows cells0 cells (v - 1 + 1) m) e' so') dense (omega arith)
+    spread_more old rows cells0 cells cells' (v - 1) (next - (row.len + row.fresh)) row (subst (λ (m : ℕ). SpreadFrom old rows cells0 cells (v - 1 + 1) m) e' so') low_all (omega arith)
     (omega (arith, known.wants, known.few)) is copied before after same
 
 -- when all are in place

@@ -7,7 +7,7 @@ use Rattle.std.proofs.lemmas.List.Sums.{sum_by_more, sum_by_more_le, sum_by-cons
 use Rattle.gj_compact.specs.declared.lane.Row.{Row}
 use Rattle.gj_compact.specs.declared.edge.End.{End}
 use Rattle.gj_compact.specs.Lanes.{AreLaid, row_run, row_end, want_of}
-use Rattle.gj_compact.specs.Moves.{len_of, IsPacked, ArePacked, AreDense}
+use Rattle.gj_compact.specs.Moves.{len_of, IsPacked, ArePacked, AreLow, AreReady}
 
 -- what lies before a place is read from there
 pub run_within : (xs : List End) (start len to : ℕ) → start + len ≤ to → take len (drop start xs) ≡ take len (drop start (take to xs))
@@ -118,12 +118,6 @@ packed_more old rows cells0 cells cells' v next row so laid below is copied befo
       ];
     }
 
--- packed rows lie with no cell between
-pub packed_dense : (old rows : List Row) (cells0 cells : List End) → length rows ≡ length old → ArePacked old rows cells0 cells → AreDense rows
-packed_dense old rows cells0 cells long packed = λ v d h.
-    let below : v < length old = omega (arith, h, long) in
-    (packed v d below).start ∙ sym (sum_same len_of rows old v long (λ w e a. (packed w e a).len))
-
 sum_all : (f : Row → ℕ) (xs ys : List Row) → length xs ≡ length ys → ((v : ℕ) (d : Row) → v < length ys → f (get_or xs v d) ≡ f (get_or ys v d)) → sum_by f xs ≡ sum_by f ys
 sum_all f [] [] long each = refl
 sum_all f [] (y ∷ ys) long each = absurd (omega arith)
@@ -133,32 +127,57 @@ sum_all f (x ∷ xs) (y ∷ ys) long each =
     let here = each zero x (omega arith) in
     omega (arith, rest, here, sum_by-cons f x xs, sum_by-cons f y ys)
 
--- they want what they wanted
-pub packed_wanted : (old rows : List Row) (cells0 cells : List End) → length rows ≡ length old → ArePacked old rows cells0 cells → sum_by want_of rows ≡ sum_by want_of old
-packed_wanted old rows cells0 cells long packed = sum_all want_of rows old long (λ v d h. omega (arith, (packed v d h).len, (packed v d h).fresh))
+-- what a vertex wants is no less than what it has
+len_most : (rows : List Row) (n : ℕ) → sum_by len_of (take n rows) ≤ sum_by want_of (take n rows)
+len_most rows zero = omega arith
+len_most [] (suc n) = omega arith
+len_most (row ∷ rows) (suc n) =
+    let rest = len_most rows n in
+    omega (arith, rest, sum_by-cons len_of row (take n rows), sum_by-cons want_of row (take n rows))
 
--- cells that begin with the packed ends show the same runs
-pub packed_runs : (old rows : List Row) (cells0 cells made : List End) → length rows ≡ length old → ArePacked old rows cells0 cells
-    → take (sum_by len_of old) made ≡ take (sum_by len_of old) cells → map (row_run made) rows ≡ map (row_run cells0) old
-packed_runs old rows cells0 cells made long packed same =
+-- packed rows are ready
+pub packed_ready : (old rows : List Row) (cells0 cells : List End) → length rows ≡ length old → ArePacked old rows cells0 cells → sum_by len_of old ≤ length cells → AreReady old rows cells0 cells
+packed_ready old rows cells0 cells long packed inside = record {
+  low = λ v d h.
+      let below : v < length old = omega (arith, h, long) in
+      let same : sum_by want_of (take v rows) ≡ sum_by want_of (take v old) = sum_same want_of rows old v long (λ w e a. omega (arith, (packed w e a).len, (packed w e a).fresh)) in
+      omega (arith, (packed v d below).start, len_most old v, same);
+  kept = λ v d h.
+      let p = packed v d h in
+      record { len = p.len; fresh = p.fresh; run = p.run; inside = omega (arith, p.start, p.len, sum_by_more_le len_of old v d h, inside) };
+}
+
+-- so are rows that lie low as they are
+pub low_ready : (rows : List Row) (cells : List End) → AreLaid rows (length cells) → AreLow rows → AreReady rows rows cells cells
+low_ready rows cells laid low = record {
+  low = low;
+  kept = λ v d h. record { len = refl; fresh = refl; run = refl; inside = omega (arith, laid.within v d h) };
+}
+
+-- they want what they wanted
+pub ready_wanted : (old rows : List Row) (cells0 cells : List End) → length rows ≡ length old → AreReady old rows cells0 cells → sum_by want_of rows ≡ sum_by want_of old
+ready_wanted old rows cells0 cells long ready = sum_all want_of rows old long (λ v d h. omega (arith, (ready.kept v d h).len, (ready.kept v d h).fresh))
+
+-- cells that begin like these show the same runs
+pub ready_runs : (old rows : List Row) (cells0 cells made : List End) → length rows ≡ length old → AreReady old rows cells0 cells
+    → ((n : ℕ) → n ≤ sum_by want_of rows → n ≤ length cells → take n made ≡ take n cells) → map (row_run made) rows ≡ map (row_run cells0) old
+ready_runs old rows cells0 cells made long ready front =
     let d : Row = record { start = 0; len = 0; spare = 0; fresh = 0 } in
     map_same (row_run made) (row_run cells0) rows old d [] long (λ v h.
-    (let p = packed v d h in
-    run_kept made cells (get_or rows v d).start (get_or rows v d).len (sum_by len_of old) (omega (arith, p.start, p.len, sum_by_more_le len_of old v d h)) same ∙ p.run))
+    (let p = ready.kept v d h in
+    let in_rows : v < length rows = omega (arith, h, long) in
+    let start : ℕ = (get_or rows v d).start in
+    let len : ℕ = (get_or rows v d).len in
+    let wants : start + len ≤ sum_by want_of rows = omega (arith, ready.low v d in_rows, sum_by_more_le want_of rows v d in_rows) in
+    run_kept made cells start len (start + len) (omega arith) (front (start + len) wants p.inside) ∙ p.run))
 
-pub packed_fresh : (old rows : List Row) (cells0 cells : List End) → length rows ≡ length old → ArePacked old rows cells0 cells
+pub ready_fresh : (old rows : List Row) (cells0 cells : List End) → length rows ≡ length old → AreReady old rows cells0 cells
     → map (λ (row : Row). row.fresh) rows ≡ map (λ (row : Row). row.fresh) old
-packed_fresh old rows cells0 cells long packed =
+ready_fresh old rows cells0 cells long ready =
     let d : Row = record { start = 0; len = 0; spare = 0; fresh = 0 } in
-    map_same (λ (row : Row). row.fresh) (λ (row : Row). row.fresh) rows old d 0 long (λ v h. (packed v d h).fresh)
+    map_same (λ (row : Row). row.fresh) (λ (row : Row). row.fresh) rows old d 0 long (λ v h. (ready.kept v d h).fresh)
 
-pub packed_zero : (old rows : List Row) → length rows ≡ length old → map {B = ℕ} (λ (row : Row). 0) rows ≡ map {B = ℕ} (λ (row : Row). 0) old
-packed_zero old rows long =
+pub ready_zero : (old rows : List Row) → length rows ≡ length old → map {B = ℕ} (λ (row : Row). 0) rows ≡ map {B = ℕ} (λ (row : Row). 0) old
+ready_zero old rows long =
     let d : Row = record { start = 0; len = 0; spare = 0; fresh = 0 } in
     map_same (λ (row : Row). 0) (λ (row : Row). 0) rows old d 0 long (λ v h. refl)
-
-pub lens_most : (rows : List Row) → sum_by len_of rows ≤ sum_by want_of rows
-lens_most [] = omega arith
-lens_most (row ∷ rows) =
-    let rest = lens_most rows in
-    omega (arith, rest, sum_by-cons len_of row rows, sum_by-cons want_of row rows)

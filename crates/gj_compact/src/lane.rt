@@ -1,10 +1,10 @@
 //! The ends of each vertex of one side, contiguous and oldest first.
-ghost use Rattle.std.specs.Prelude.{◌≡◌, ◌+◌, ◌-◌, ◌<◌, ◌≤◌, [], ◌++◌, IfOk, IfSome, replicate, length, slice_get, slice_index_or, Some, vec_capacity};
+ghost use Rattle.std.specs.Prelude.{◌≡◌, ◌+◌, ◌-◌, ◌<◌, ◌≤◌, [], ◌++◌, IfOk, IfSome, replicate, length, slice_get, slice_index_or, Some, IsTrue, vec_capacity};
 ghost use Rattle.std.specs.Prelude.{ℕ, List, map, filter, take, drop, count_by, sum_by};
 ghost use Rattle.gj_compact.specs.Blocks.{lets_through, moments_between, AreBounds};
 ghost use Rattle.gj_compact.specs.declared.lane.Row.{Row};
 ghost use Rattle.gj_compact.specs.Lanes.{run_of, pushed, popped, noted, opened, emptied, wanted, want_of, row_run, AreLaid, unused_row};
-ghost use Rattle.gj_compact.specs.Moves.{len_of, ArePacked, AreDense};
+ghost use Rattle.gj_compact.specs.Moves.{len_of, ArePacked, AreLow, AreReady};
 
 use crate::cells::Cells;
 use crate::edge::End;
@@ -96,7 +96,6 @@ fn pack(rows: &mut [Row], cells: &mut Cells)
     requires few { length cells.old.ends ≤ 8388608 }
     ensures packed { ArePacked rows.old rows.new cells.old.ends cells.new.ends }
     ensures inside { sum_by len_of rows.old ≤ length cells.new.ends }
-    ensures long { length cells.new.ends ≡ length cells.old.ends }
     ensures room { cells.new.room ≡ cells.old.room }
 {
     let mut next = 0;
@@ -113,9 +112,38 @@ fn pack(rows: &mut [Row], cells: &mut Cells)
     }
 }
 
+/// Whether no run lies behind the place that it will have, as where none lost an end since they were laid out.
+fn are_low(rows: &[Row]) -> bool
+    requires { sum_by want_of rows.now ≤ 8388608 }
+    ensures { IsTrue result → AreLow rows.now }
+{
+    let mut next = 0;
+    for row in rows {
+        if next < row.start {
+            return false;
+        }
+        next += row.len + row.fresh;
+    }
+    true
+}
+
+/// Sees to it that no run lies behind the place that it will have.
+fn make_way(rows: &mut [Row], cells: &mut Cells)
+    requires laid { AreLaid rows.old (length cells.old.ends) }
+    requires few { length cells.old.ends ≤ 8388608 }
+    requires want { sum_by want_of rows.old ≤ 8388608 }
+    ensures ready { AreReady rows.old rows.new cells.old.ends cells.new.ends }
+    ensures room { cells.new.room ≡ cells.old.room }
+{
+    if are_low(rows) {
+        return;
+    }
+    pack(rows, cells);
+}
+
 /// Gives each run its room, from the last one to the first.
 fn spread(rows: &mut [Row], cells: &mut Cells)
-    requires dense { AreDense rows.old }
+    requires low { AreLow rows.old }
     requires size { length cells.old.ends ≡ sum_by want_of rows.old }
     requires few { length cells.old.ends ≤ 8388608 }
     ensures laid { AreLaid rows.new (length cells.new.ends) }
@@ -155,7 +183,7 @@ fn lay_out(rows: &mut [Row], cells: &mut Cells)
     ensures room { cells.new.room ≡ cells.old.room }
 {
     let count = want(rows);
-    pack(rows, cells);
+    make_way(rows, cells);
     cells.make(count);
     spread(rows, cells);
 }

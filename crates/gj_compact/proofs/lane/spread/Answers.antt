@@ -11,7 +11,7 @@ move_run-requires-clause-from c =
     let d : Row = record { start = 0; len = 0; spare = 0; fresh = 0 } in
     let row : Row = get_or c.loop-v.rows (c.loop-v.v - 1) d in
     let below : c.loop-v.v - 1 < length c.loop-v.rows = omega (arith, c.loop-v-test.true, c.loop-v.invariant.most, so.long) in
-    let known = spread_next old c.loop-v.rows c.args.cells.now.ends c.loop-v.cells.ends c.loop-v.v c.loop-v.next row so c.requires.dense c.requires.size c.loop-v-test.true c.loop-v.invariant.most
+    let known = spread_next old c.loop-v.rows c.args.cells.now.ends c.loop-v.cells.ends c.loop-v.v c.loop-v.next row so c.requires.low c.requires.size c.loop-v-test.true c.loop-v.invariant.most
     (get_or_default c.loop-v.rows (c.loop-v.v - 1) d row below) in
     omega (arith, known.inside, known.few, so.size)
 
@@ -23,7 +23,7 @@ loop-v-preserved c =
     let row : Row = get_or c.loop-v.rows (c.loop-v.v - 1) d in
     let below : c.loop-v.v - 1 < length c.loop-v.rows = omega (arith, c.loop-v-test.true, c.loop-v.invariant.most, so.long) in
     record {
-      spread = spread_step old c.loop-v.rows c.args.cells.now.ends c.loop-v.cells.ends c.move_run.new.self.ends c.loop-v.v c.loop-v.next row so c.requires.dense c.requires.size
+      spread = spread_step old c.loop-v.rows c.args.cells.now.ends c.loop-v.cells.ends c.move_run.new.self.ends c.loop-v.v c.loop-v.next row so c.requires.low c.requires.size
           c.loop-v-test.true c.loop-v.invariant.most (get_or_default c.loop-v.rows (c.loop-v.v - 1) d row below) c.move_run.ensures.copied c.move_run.ensures.before c.move_run.ensures.after
           c.move_run.ensures.long;
       room = c.move_run.ensures.room ∙ c.loop-v.invariant.room;
