@@ -1,5 +1,6 @@
 -- Sessions that are done, beside a history that grows.
-use Rattle.std.proofs.Common.{◌≡◌, ℕ, ◌+◌, Bool, IsTrue, List, [], ◌∷◌, ◌++◌, length, slice_index_or, ap, sym, subst, arith, length-append}
+use Rattle.std.proofs.Common.{◌≡◌, ℕ, ◌+◌, All, Bool, IsTrue, List, [], ◌∷◌, ◌++◌, length, slice_index_or, ap, sym, subst, arith, length-append}
+use Rattle.std.proofs.Math.Logic.{∥∥₁_map}
 use Rattle.std.proofs.lemmas.List.Elements.{All-push}
 use Rattle.gj_base.specs.Configuration.{Configuration}
 use Rattle.gj_base.specs.History.{Begins}
@@ -32,19 +33,21 @@ pub are_served_later : {L : Type 0} (tells : L → Bool) (stream : L → Reading
     → Begins a b → AreServed tells stream read_faults reads written write_faults conf a told back given → AreServed tells stream read_faults reads written write_faults conf b told back given
 are_served_later tells stream read_faults reads written write_faults conf a b told back given later all = λ yes.
     let here = all yes in
-    (here.0, λ k d lt. served_later tells stream read_faults reads written write_faults conf a b (slice_index_or given k d) later (here.1 k d lt))
+    (here.0, λ k d lt. ∥∥₁_map (here.1 k d lt) (served_later tells stream read_faults reads written write_faults conf a b (slice_index_or given k d) later))
 
 -- one more came back, and the history grew
-pub are_served_more : {L : Type 0} (tells : L → Bool) (stream : L → Reading) (read_faults reads : L → ℕ) (written : L → List ℕ) (write_faults : L → ℕ) (conf : Configuration) (a s b : History) (told : Type 0) (back : ℕ) (given : List (Done L)) (done : Done L)
+pub are_served_more : {L : Type 0} {tells : L → Bool} {stream : L → Reading} {read_faults reads : L → ℕ} {written : L → List ℕ} {write_faults : L → ℕ} {conf : Configuration} (a s b : History) (told told' : Type 0) (back back' : ℕ) (given given' : List (Done L)) (done : Done L)
     → Begins a b → Begins s b
+    → (told' → told) → back' ≡ back + 1 → (told → given' ≡ given ++ done ∷ [])
     → AreServed tells stream read_faults reads written write_faults conf a told back given
     → HasServed tells stream read_faults reads written write_faults conf s done
-    → AreServed tells stream read_faults reads written write_faults conf b told (back + 1) (given ++ done ∷ [])
-are_served_more tells stream read_faults reads written write_faults conf a s b told back given done later seen all one = λ yes.
+    → AreServed tells stream read_faults reads written write_faults conf b told' back' given'
+are_served_more {L = L} {tells = tells} {stream = stream} {read_faults = read_faults} {reads = reads} {written = written} {write_faults = write_faults} {conf = conf} a s b told told' back back' given given' done later seen still counted longer all one = λ yes'.
+    let yes = still yes' in
     let here = are_served_later tells stream read_faults reads written write_faults conf a b told back given later all yes in
-    (omega (arith, here.0, length-append given (done ∷ [])),
-      All-push (HasServed tells stream read_faults reads written write_faults conf b) given done here.1
-        (served_later tells stream read_faults reads written write_faults conf s b done seen one))
+    let P : Done L → Type 0 = λ x. ∥ HasServed tells stream read_faults reads written write_faults conf b x ∥₁ in
+    (omega (arith, here.0, counted, ap length (longer yes), length-append given (done ∷ [])),
+      subst (All P) (sym (longer yes)) (All-push P given done here.1 ∣ served_later tells stream read_faults reads written write_faults conf s b done seen one ∣₁))
 
 -- none came back yet
 pub none_served : {L : Type 0} (tells : L → Bool) (stream : L → Reading) (read_faults reads : L → ℕ) (written : L → List ℕ) (write_faults : L → ℕ) (conf : Configuration) (h : History) (told : Type 0) (back : ℕ) (given : List (Done L))

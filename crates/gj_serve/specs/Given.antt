@@ -36,7 +36,7 @@ pub record HasServed {L : Type 0} (tells : L → Bool) (stream : L → Reading) 
   pub entered : after.posted ≡ before.posted + done.entered
   pub begins : Begins after.front history
 
--- each link that came back had such a session, where they are told
+-- each link that came back had such a session, where they are told; that there is one is said, and not which one
 abbrev pub AreServed : {L : Type 0} → (L → Bool) → (L → Reading) → (L → ℕ) → (L → ℕ) → (L → List ℕ) → (L → ℕ) → Configuration → History → Type 0 → ℕ → List (Done L) → Type 0
-AreServed tells stream read_faults reads written write_faults conf history told back given =
-    told → (length given ≡ back) × All (HasServed tells stream read_faults reads written write_faults conf history) given
+AreServed {L = L} tells stream read_faults reads written write_faults conf history told back given =
+    told → (length given ≡ back) × All (λ (done : Done L). ∥ HasServed tells stream read_faults reads written write_faults conf history done ∥₁) given
