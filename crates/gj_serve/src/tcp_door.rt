@@ -86,7 +86,7 @@ fn is_gone(kind: ErrorKind) -> bool {
 impl<R: Net<Listener = TcpListener, Stream = TcpStream> + Clock> Door for TcpDoor<R> {
     type Link = TcpLink;
 
-    ghost use Rattle.std.specs.Prelude.{false, [], IsTrue};
+    ghost use Rattle.std.specs.Prelude.{◌++◌, ◌∷◌, [], false, IsTrue};
 
     ghost handed = { λ d. d.handed };
 
