@@ -33,6 +33,11 @@ news n page = drop (n - page.from) page.items
 abbrev pub after_page : Shown → Paged → Shown
 after_page shown page = if joins (end_of shown) page then more shown (news (end_of shown) page) else shown
 
+-- what is shown after pages
+abbrev pub after_pages : Shown → List Paged → Shown
+after_pages shown [] = shown
+after_pages shown (page ∷ pages) = after_pages (after_page shown page) pages
+
 -- the page's interactions are those of the history at its places
 pub record IsOf (h : History) (page : Paged) : Type 0 where
   pub begins : h.first ≤ page.from

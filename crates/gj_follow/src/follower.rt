@@ -3,7 +3,7 @@ ghost use Rattle.std.specs.Prelude.{◌≡◌, ◌+◌, ◌≤◌, ◌<◌, ◌%
 ghost use Rattle.std.specs.List.{All};
 ghost use Rattle.gj_base.specs.declared.history.History.{History};
 ghost use Rattle.gj_base.specs.History.{StandsFor, empty_shown, end_of};
-ghost use Rattle.gj_follow.specs.Follows.{IsOf, after_page, part, reach, reach_one, taken};
+ghost use Rattle.gj_follow.specs.Follows.{IsOf, after_page, after_pages, part, reach, reach_one, taken};
 
 use crate::page::Page;
 use gj_base::{Conf, Grow, Memory, add_all};
@@ -93,6 +93,7 @@ impl<W: Grow> Follower<W> {
     /// Takes the pages in their order, and says how many interactions were added. It takes no memory.
     pub fn take_pages(&mut self, pages: &[Page]) -> u64
         ensures exact { end_of self.new ≡ end_of self.old + result }
+        ensures shows { self.new ≡ after_pages self.old pages.now }
         ensures end { end_of self.new ≡ reach (end_of self.old) pages.now }
         ensures later { end_of self.old ≤ end_of self.new }
         ensures stands { (h : History) (start : ℕ) → h.first ≤ start → All (IsOf h) pages.now → StandsFor self.old (part h start (end_of self.old))

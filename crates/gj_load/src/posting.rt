@@ -52,6 +52,7 @@ fn post_all<I: Index>(
     requires empty { I.keeps index.old (empty_history 0) }
     ensures ok { OnOk result (I.keeps index.new (history_of (items_from number count))) }
     ensures batches { IfOk result (λ batches. batches ≡ (count + 4095) / 4096) }
+    ensures same { OnOk result (I.faults index.new ≡ I.faults index.old) }
     ensures conf { conf_of (I.viewed index.new) ≡ conf_of (I.viewed index.old) }
     ensures store { IfErr result (λ e. e ≡ why.Store → Rose (I.faults index.old) (I.faults index.new)) }
     ensures full { IfErr result (λ e. (n : ℕ) → e ≡ why.Full n → ⊥) }
@@ -86,6 +87,8 @@ pub fn run_load<I: Index>(
     requires few { count ≤ 1000000 }
     requires empty { I.keeps index.old (empty_history 0) }
     ensures ok { IfOk result (λ t. t ≡ totals_of (conf_of (I.viewed index.old)) number count) }
+    ensures keeps { OnOk result (I.keeps index.new (history_of (items_from number count))) }
+    ensures same { OnOk result (I.faults index.new ≡ I.faults index.old) }
     ensures store { IfErr result (λ e. e ≡ why.Store → Rose (I.faults index.old) (I.faults index.new)) }
     ensures full { IfErr result (λ e. (n : ℕ) → e ≡ why.Full n → ⊥) }
     ensures leaves { KeepsBeginning (I.keeps index.new) number count }

@@ -1,18 +1,21 @@
 -- One post: what it brings into the history.
-use Rattle.std.proofs.Common.{◌≡◌, ◌+◌, ℕ, List, [], length, ap, sym, subst, ◌∙◌, append-nil, Result, Ok, Err, add-zero}
+use Rattle.std.proofs.Common.{◌≡◌, ◌+◌, ◌^◌, ◌<◌, ℕ, List, [], length, refl, ap, sym, subst, ◌∙◌, append-nil, Result, Ok, Err, IfErr, add-zero}
 use Rattle.gj_base.specs.Asks.{NotedBatch}
 use Rattle.gj_base.specs.History.{IsWindow, end_of, entries_by, extend, more}
 use Rattle.gj_base.specs.declared.history.History.{History}
 use Rattle.gj_base.specs.declared.history.Shown.{Shown}
+use Rattle.gj_base.specs.declared.index.IndexError.{IndexError}
+use Rattle.gj_base.specs.declared.index.IndexError.TheVariants as errors
 use Rattle.gj_base.specs.declared.item.Entry.{Entry}
 use Rattle.gj_base.specs.declared.item.Item.{Item}
 use Rattle.gj_once.specs.declared.noted_index.Noted.{Noted}
 use Rattle.gj_once.specs.declared.noted_index.Noted.TheVariants.{New, Repeated}
 use Rattle.gj_once.specs.declared.noted_index.OnceError.{OnceError}
+use Rattle.gj_once.specs.declared.noted_index.OnceError.TheVariants as refused
 use Rattle.gj_once.specs.declared.posting.Call.{Call}
 use Rattle.gj_once.specs.declared.posting.Call.TheVariants as asked
 use Rattle.gj_once.specs.NotedPosts.{OnNew, OnOther}
-use Rattle.gj_once.specs.PostLists.{entering, items_in, told_of}
+use Rattle.gj_once.specs.PostLists.{FullWhere, entering, items_in, told_of}
 use Rattle.gj_once.proofs.WithinLemmas.{longer_end}
 
 -- a history with no entry more
@@ -26,6 +29,22 @@ end_new w v call items is same shows =
 
 end_other : (w v : Shown) → v ≡ w → end_of v ≡ end_of w + 0
 end_other w v stays = ap end_of stays ∙ sym (add-zero (end_of w))
+
+-- a full history is told where there is no room
+pub full_plain : (before : ℕ) (items : List Item) (error : IndexError) → ((n : ℕ) → error ≡ errors.Full n → (n ≡ before) × (2 ^ 48 < before + length items))
+    → FullWhere before items (Err (refused.Index error))
+full_plain before items errors.Memory told = tt
+full_plain before items errors.Store told = tt
+full_plain before items (errors.Full n) told = told n refl
+
+pub full_noted : (before : ℕ) (items : List Item) (answer : Result Noted OnceError)
+    → IfErr answer (λ error. (n : ℕ) → error ≡ refused.Index (errors.Full n) → (n ≡ before) × (2 ^ 48 < before + length items)) → FullWhere before items answer
+full_noted before items (Ok noted) told = tt
+full_noted before items (Err (refused.Index errors.Memory)) told = tt
+full_noted before items (Err (refused.Index errors.Store)) told = tt
+full_noted before items (Err (refused.Index (errors.Full n))) told = told n refl
+full_noted before items (Err (refused.Old last)) told = tt
+full_noted before items (Err (refused.Skipped last)) told = tt
 
 -- where the view ends after the post of a numbered batch
 pub noted_end : (w v : Shown) (batch : NotedBatch) (call : Call) (result : Result Noted OnceError) → call ≡ asked.Noted batch → IsWindow w

@@ -9,7 +9,8 @@ use Rattle.gj_once.specs.declared.noted_index.Noted.{Noted}
 use Rattle.gj_once.specs.declared.noted_index.OnceError.{OnceError}
 use Rattle.gj_once.specs.declared.posting.Call.{Call}
 use Rattle.gj_once.specs.declared.verdict.LastBatch.{LastBatch}
-use Rattle.gj_once.specs.PostLists.{AreAnswers, IsAnswer, Post, entered, entering, noted_after, noted_by, posts_of, told_of}
+use Rattle.gj_once.specs.NotedPosts.{faults_noted}
+use Rattle.gj_once.specs.PostLists.{AreAnswers, IsAnswer, Post, entered, entering, faults_answered, noted_after, noted_by, posts_of, told_of}
 use Rattle.gj_once.proofs.PostLemmas.{extend_none}
 
 -- the first posts of a list were answered so; at first this was noted and the history had that length, and now these
@@ -41,6 +42,11 @@ entered_more (first ∷ posts) post =
 pub noted_more : (lasts : List LastBatch) (posts : List Post) (post : Post) → noted_after lasts (posts ++ post ∷ []) ≡ noted_by (noted_after lasts posts) post.call post.told
 noted_more lasts [] post = refl
 noted_more lasts (first ∷ posts) post = noted_more (noted_by lasts first.call first.told) posts post
+
+pub faults_more : (count : ℕ) (answers : List (Result Noted OnceError)) (answer : Result Noted OnceError)
+    → faults_answered count (answers ++ answer ∷ []) ≡ faults_noted (faults_answered count answers) answer
+faults_more count [] answer = refl
+faults_more count (one ∷ answers) answer = faults_more (faults_noted count one) answers answer
 
 answers_more : (lasts : List LastBatch) (before : ℕ) (calls : List Call) (answers : List (Result Noted OnceError)) (call : Call) (answer : Result Noted OnceError)
     → slice_get calls (length answers) ≡ Some call → AreAnswers lasts before calls answers

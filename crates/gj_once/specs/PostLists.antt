@@ -1,18 +1,20 @@
 -- What lists of posts bring into a history, and which of them take each numbered batch once.
-use Rattle.std.specs.Prelude.{◌≡◌, ℕ, ◌+◌, ◌-◌, ◌<◌, ◌≤◌, List, [], ◌∷◌, ◌++◌, length, slice_get, slice_range, Option, Some, None, Result, Ok, Err}
+use Rattle.std.specs.Prelude.{◌≡◌, ℕ, ◌+◌, ◌-◌, ◌^◌, ◌<◌, ◌≤◌, List, [], ◌∷◌, ◌++◌, length, slice_get, slice_range, Option, Some, None, Result, Ok, Err}
 use Rattle.gj_base.specs.Asks.{NotedBatch, IsNotedBatch}
 use Rattle.gj_base.specs.History.{items_of}
 use Rattle.gj_base.specs.declared.history.History.{History}
+use Rattle.gj_base.specs.declared.index.IndexError.TheVariants as errors
 use Rattle.gj_base.specs.declared.item.Item.{Item}
 use Rattle.gj_base.specs.declared.item.Receipt.{Receipt}
 use Rattle.gj_once.specs.declared.noted_index.Noted.{Noted}
 use Rattle.gj_once.specs.declared.noted_index.Noted.TheVariants.{New, Repeated}
 use Rattle.gj_once.specs.declared.noted_index.OnceError.{OnceError}
+use Rattle.gj_once.specs.declared.noted_index.OnceError.TheVariants as refused
 use Rattle.gj_once.specs.declared.posting.Call.{Call}
 use Rattle.gj_once.specs.declared.posting.Call.TheVariants as asked
 use Rattle.gj_once.specs.declared.verdict.LastBatch.{LastBatch}
 use Rattle.gj_once.specs.Judging.{judged, noting}
-use Rattle.gj_once.specs.NotedPosts.{Answers, IfNew, IsPosted}
+use Rattle.gj_once.specs.NotedPosts.{Answers, IfNew, IsPosted, faults_noted}
 
 -- a batch that may be posted: a numbered one always may
 abbrev pub IsCall : Call → Type 0
@@ -67,11 +69,21 @@ noted_after lasts (post ∷ posts) = noted_after (noted_by lasts post.call post.
 abbrev pub Takes : ℕ → List Item → Receipt → Type 0
 Takes before items receipt = (receipt.from ≡ before) × (receipt.to ≡ before + length items)
 
+-- a full history is told with its length, and only where these items would pass the last place
+abbrev pub FullWhere : ℕ → List Item → Result Noted OnceError → Type 0
+FullWhere before items (Ok noted) = Unit {0}
+FullWhere before items (Err (refused.Index errors.Memory)) = Unit {0}
+FullWhere before items (Err (refused.Index errors.Store)) = Unit {0}
+FullWhere before items (Err (refused.Index (errors.Full n))) = (n ≡ before) × (2 ^ 48 < before + length items)
+FullWhere before items (Err (refused.Old last)) = Unit {0}
+FullWhere before items (Err (refused.Skipped last)) = Unit {0}
+
 -- the answer is one to the call, where this is noted and the history has this length
 abbrev pub IsAnswer : List LastBatch → ℕ → Call → Result Noted OnceError → Type 0
-IsAnswer lasts before (asked.Plain items) answer = IsPosted answer × IfNew answer (Takes before items)
+IsAnswer lasts before (asked.Plain items) answer = IsPosted answer × IfNew answer (Takes before items) × FullWhere before items answer
 IsAnswer lasts before (asked.Noted batch) answer =
     IsNotedBatch batch × Answers (judged lasts batch.producer batch.number) answer × IfNew answer (Takes before batch.items)
+    × FullWhere before batch.items answer
 
 -- each answer is one to its call, where the earlier posts are noted
 abbrev pub AreAnswers : List LastBatch → ℕ → List Call → List (Result Noted OnceError) → Type 0
@@ -80,6 +92,11 @@ AreAnswers lasts before [] (answer ∷ answers) = Unit {0}
 AreAnswers lasts before (call ∷ calls) (answer ∷ answers) =
     IsAnswer lasts before call answer
     × AreAnswers (noted_by lasts call (told_of answer)) (before + length (entering call (told_of answer))) calls answers
+
+-- the count of an index after the answers: one more at each by a fault of its store
+abbrev pub faults_answered : ℕ → List (Result Noted OnceError) → ℕ
+faults_answered count [] = count
+faults_answered count (answer ∷ answers) = faults_answered (faults_noted count answer) answers
 
 -- the items stand in the history at these places
 pub record Holds (h : History) (receipt : Receipt) (items : List Item) : Type 0 where

@@ -4,7 +4,8 @@ ghost use Rattle.std.specs.List.{All};
 ghost use Rattle.gj_base.specs.declared.history.History.{History};
 ghost use Rattle.gj_base.specs.History.{end_of, extend, entries_by};
 ghost use Rattle.gj_once.specs.Judging.{nothing_noted};
-ghost use Rattle.gj_once.specs.PostLists.{AreAnswers, IsAnswer, IsCall, OnceOnly, entered, entering, noted_after, noted_by, posts_of, told_of};
+ghost use Rattle.gj_once.specs.NotedPosts.{faults_noted};
+ghost use Rattle.gj_once.specs.PostLists.{AreAnswers, IsAnswer, IsCall, OnceOnly, entered, entering, faults_answered, noted_after, noted_by, posts_of, told_of};
 
 use crate::noted_index::{Noted, NotedIndex, OnceError};
 use gj_base::{ItemList, Memory, NotedItems};
@@ -23,10 +24,12 @@ pub enum Call {
 }
 
 /// Posts the batch. One without a number is answered as a fresh one.
+#[tactic(auto, using(crate::proofs::PostLemmas::full_plain, crate::proofs::PostLemmas::full_noted))]
 fn post_one<N: NotedIndex>(index: &mut N, call: &Call) -> Answer
     requires { IsCall call.now }
     ensures exact { IsAnswer (N.noted index.old) (end_of (N.viewed index.old)) call.now result }
     ensures noted { N.noted index.new ≡ noted_by (N.noted index.old) call.now (told_of result) }
+    ensures count { N.faults index.new ≡ faults_noted (N.faults index.old) result }
     ensures end { end_of (N.viewed index.new) ≡ end_of (N.viewed index.old) + length (entering call.now (told_of result)) }
     ensures keeps { (h : History) (seat : ℕ) → N.keeps index.old h → N.keeps index.new (extend h (entries_by seat (entering call.now (told_of result)))) }
 {
@@ -63,6 +66,7 @@ pub fn post_all<N: NotedIndex>(
         → IfOk result (λ answers. N.keeps index.new (extend h (entries_by seat (entered (posts_of calls.now answers.items))))) }
     ensures once { (h : History) (seat : ℕ) → N.noted index.old ≡ nothing_noted → N.keeps index.old h
         → IfOk result (λ answers. OnceOnly (posts_of calls.now answers.items) (extend h (entries_by seat (entered (posts_of calls.now answers.items))))) }
+    ensures count { IfOk result (λ answers. N.faults index.new ≡ faults_answered (N.faults index.old) answers.items) }
     ensures err { OnErr result (index.new ≡ index.old) }
 {
     let Ok(mut answers) = Vec::with_capacity(alloc, calls.len()) else {

@@ -7,9 +7,9 @@ use Rattle.std.proofs.lemmas.List.Elements.{filter_map-append}
 use Rattle.gj_base.specs.declared.history.History.{History}
 use Rattle.gj_base.specs.declared.history.Shown.{Shown}
 use Rattle.gj_base.specs.History.{StandsFor, end_of}
-use Rattle.gj_follow.specs.Follows.{IsOf, after_page, part, reach, reach_one}
+use Rattle.gj_follow.specs.Follows.{IsOf, after_page, after_pages, part, reach, reach_one}
 use Rattle.gj_follow.specs.Pages.{Paged}
-use Rattle.gj_pages.specs.Answers.{after_pages, answer_at, answers, page_in, pages_in}
+use Rattle.gj_pages.specs.Answers.{answer_at, answers, page_in, pages_in}
 use Rattle.gj_pages.specs.Following.{Grown}
 
 pub pages_append : (xs ys : List (List ℕ)) → pages_in (xs ++ ys) ≡ pages_in xs ++ pages_in ys

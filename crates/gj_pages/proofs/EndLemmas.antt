@@ -6,8 +6,8 @@ use Rattle.gj_base.specs.declared.history.Shown.{Shown}
 use Rattle.gj_base.specs.Causes.{Rose, RoseBy}
 use Rattle.gj_base.specs.History.{StandsFor, end_of}
 use Rattle.gj_base.specs.Stream.{Reading}
-use Rattle.gj_follow.specs.Follows.{IsOf, part, reach}
-use Rattle.gj_pages.specs.Answers.{after_pages, answer_at, answers, last_line, page_in, pages_in, text_of}
+use Rattle.gj_follow.specs.Follows.{IsOf, after_pages, part, reach}
+use Rattle.gj_pages.specs.Answers.{answer_at, answers, last_line, page_in, pages_in, text_of}
 use Rattle.gj_pages.specs.Following.{AreAll, BeforeLong, Ended, Ends, FailedReads, Followed, IsAll, IsByInput, IsTurned}
 use Rattle.gj_pages.specs.Lines.{end_by, end_of_rest, has_long, is_long, lines_of, rest_of}
 use Rattle.gj_base.specs.Streams.{Incoming, Outgoing, TookAll, Wrote, WrotePart}

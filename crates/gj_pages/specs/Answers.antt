@@ -4,7 +4,7 @@ use Rattle.std.specs.Fmt.{decimal}
 use Rattle.std.specs.List.{filter_map}
 use Rattle.gj_base.specs.declared.history.Shown.{Shown}
 use Rattle.gj_base.specs.History.{end_of}
-use Rattle.gj_follow.specs.Follows.{after_page, reach, taken}
+use Rattle.gj_follow.specs.Follows.{after_pages, reach, taken}
 use Rattle.gj_follow.specs.Pages.{Paged}
 use Rattle.gj_follow.specs.Reading.{reading_of, tree_of}
 use Rattle.gj_follow.specs.declared.follower.PageTaken.{PageTaken}
@@ -44,11 +44,6 @@ answer_at n (Some page) = taken_line (taken n page)
 abbrev pub answers : ℕ → List (List ℕ) → List ℕ
 answers n [] = []
 answers n (line ∷ lines) = answer_at n (page_in line) ++ answers (reach n (pages_in (line ∷ []))) lines
-
--- what is shown after pages
-abbrev pub after_pages : Shown → List Paged → Shown
-after_pages shown [] = shown
-after_pages shown (page ∷ pages) = after_pages (after_page shown page) pages
 
 -- the line at the end of the input
 abbrev pub last_line : Shown → List ℕ

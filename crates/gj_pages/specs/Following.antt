@@ -4,9 +4,9 @@ use Rattle.std.specs.List.{All, list_any}
 use Rattle.gj_base.specs.declared.history.History.{History}
 use Rattle.gj_base.specs.declared.history.Shown.{Shown}
 use Rattle.gj_base.specs.History.{StandsFor, end_of}
-use Rattle.gj_follow.specs.Follows.{IsOf, part, reach}
+use Rattle.gj_follow.specs.Follows.{IsOf, after_pages, part, reach}
 use Rattle.gj_follow.specs.Pages.{Paged}
-use Rattle.gj_pages.specs.Answers.{after_pages, answer_at, answers, last_line, page_in, pages_in}
+use Rattle.gj_pages.specs.Answers.{answer_at, answers, last_line, page_in, pages_in}
 use Rattle.gj_pages.specs.Lines.{has_long, is_long, lines_of, rest_of}
 use Rattle.gj_base.specs.Streams.{Incoming, Outgoing, FailedOnce, Took, Wrote, WrotePart}
 use Rattle.gj_pages.specs.declared.end.FollowEnd.{FollowEnd}

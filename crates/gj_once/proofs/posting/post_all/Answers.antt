@@ -1,15 +1,16 @@
-use Rattle.std.proofs.Common.{ℕ, ◌≡◌, ◌++◌, List, [], ◌∷◌, Result, refl, length-append, length, Some, slice_get, sym, subst, ap, arith}
+use Rattle.std.proofs.Common.{ℕ, ◌≡◌, ◌∙◌, ◌++◌, List, [], ◌∷◌, Result, refl, length-append, length, Some, slice_get, sym, subst, ap, arith}
 use Rattle.std.proofs.lemmas.Option.{slice_get_read}
 use Rattle.gj_base.specs.declared.item.Item.{Item}
 use Rattle.gj_base.specs.History.{end_of, entries_by, length_of}
 use Rattle.gj_base.proofs.Windows.{items_back, stands_end}
 use Rattle.gj_once.specs.declared.verdict.LastBatch.{LastBatch}
 use Rattle.gj_once.specs.Judging.{nothing_noted}
-use Rattle.gj_once.specs.PostLists.{AreAnswers, entered, posts_of}
+use Rattle.gj_once.specs.NotedPosts.{faults_noted}
+use Rattle.gj_once.specs.PostLists.{AreAnswers, entered, faults_answered, posts_of}
 use Rattle.gj_once.proofs.OnceLemmas.{are_so, once_only}
 use Rattle.gj_once.specs.declared.noted_index.Noted.{Noted}
 use Rattle.gj_once.specs.declared.noted_index.OnceError.{OnceError}
-use Rattle.gj_once.proofs.PostingLemmas.{Posted, posted_none, posted_more}
+use Rattle.gj_once.proofs.PostingLemmas.{Posted, faults_more, posted_none, posted_more}
 use Rattle.gj_once.proofs.posting.post_all.Goals as goal
 
 pub loop-call-init : goal.loop-call-init
@@ -20,6 +21,9 @@ loop-call-init g c = record {
       let P : List (Result Noted OnceError) → Type 0 = λ answers. Posted (g.N.NotedIndex.noted c.args.index.now) (end_of (g.N.Index.viewed c.args.index.now)) c.args.calls.now answers
       (g.N.NotedIndex.noted c.args.index.now) (end_of (g.N.Index.viewed c.args.index.now)) (g.N.Index.keeps c.args.index.now) (g.N.Index.keeps c.args.index.now) in
       subst P (sym c.in-Ok.ensures.items) (posted_none _ _ c.args.calls.now (g.N.Index.keeps c.args.index.now));
+  count =
+      let F : List (Result Noted OnceError) → Type 0 = λ answers. g.N.Index.faults c.args.index.now ≡ faults_answered (g.N.Index.faults c.args.index.now) answers in
+      subst F (sym c.in-Ok.ensures.items) refl;
 }
 
 pub loop-call-preserved : goal.loop-call-preserved
@@ -36,6 +40,10 @@ loop-call-preserved g c = record {
       posted_more _ _ c.args.calls.now c.loop-call.answers.items _ _ _ _ (g.N.Index.keeps c.args.index.now) (g.N.Index.keeps c.loop-call.index) (g.N.Index.keeps c.post_one-answer.new.index)
       c.call-item.result c.post_one-answer.result c.put.new.answers.items c.loop-call.invariant.posted c.put.ensures.items at
       c.post_one-answer.ensures.exact c.post_one-answer.ensures.noted c.post_one-answer.ensures.end c.post_one-answer.ensures.keeps;
+  count =
+      c.post_one-answer.ensures.count ∙ (ap (λ n. faults_noted n c.post_one-answer.result) c.loop-call.invariant.count
+      ∙ (sym (faults_more (g.N.Index.faults c.args.index.now) c.loop-call.answers.items c.post_one-answer.result)
+      ∙ ap (λ answers. faults_answered (g.N.Index.faults c.args.index.now) answers) (sym c.put.ensures.items)));
 }
 
 pub returns-clause-once : goal.returns-clause-once
