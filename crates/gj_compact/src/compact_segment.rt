@@ -83,8 +83,8 @@ impl CompactSegment {
         }
     }
 
-    /// Takes over the interactions of another segment, whatever was there before. It takes time in their number and that
-    /// of the capacity, and no memory.
+    /// Takes over the interactions of another segment, whatever was there before. It takes time in their number, and no
+    /// memory.
     pub fn fill_from<V: SegmentView>(&mut self, from: &V)
         requires { length (V.listed from.now) ≤ self.old.room }
         ensures items { self.new.items ≡ V.listed from.now }
