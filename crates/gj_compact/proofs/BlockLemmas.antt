@@ -12,7 +12,7 @@ use Rattle.gj_base.specs.Numbered.{lets_end}
 use Rattle.gj_base.proofs.MaskedLemmas.{front}
 use Rattle.gj_compact.specs.declared.edge.End.{End}
 use Rattle.gj_compact.specs.Blocks.{block_of, moments_of, moments_between, AreBounds, lets_through}
-use Rattle.gj_compact.proofs.PackLemmas.{run_within}
+use Rattle.gj_compact.proofs.PullLemmas.{run_within}
 use Rattle.gj_compact.proofs.CompactLemmas.{dated}
 
 -- the next end of a part

@@ -4,7 +4,7 @@ pub mod CompactLemmas
 pub mod LaneLemmas
 pub mod NoteLemmas
 pub mod OpenLemmas
-pub mod PackLemmas
+pub mod PullLemmas
 pub mod RowLemmas
 pub mod SpanLemmas
 pub mod SumLemmas

@@ -8,7 +8,7 @@ use Rattle.gj_compact.specs.declared.lane.Row.{Row}
 use Rattle.gj_compact.specs.declared.edge.End.{End}
 use Rattle.gj_compact.specs.Lanes.{AreLaid, all_rows, laned, unused_row, row_run, row_end, want_of, wanted, opened}
 use Rattle.gj_compact.specs.Moves.{AreLow}
-use Rattle.gj_compact.proofs.PackLemmas.{run_kept, rest_kept, map_same}
+use Rattle.gj_compact.proofs.PullLemmas.{run_kept, rest_kept, map_same}
 use Rattle.gj_compact.proofs.RowLemmas.{laid_behind, map_all}
 
 -- a row in its new place

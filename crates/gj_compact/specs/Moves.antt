@@ -4,21 +4,6 @@ use Rattle.gj_compact.specs.declared.lane.Row.{Row}
 use Rattle.gj_compact.specs.declared.edge.End.{End}
 use Rattle.gj_compact.specs.Lanes.{row_run, want_of}
 
--- how many ends the row has
-abbrev pub len_of : Row → ℕ
-len_of row = row.len
-
--- the row has the same ends and notes, and its ends lie from a place on
-pub record IsPacked (old new : Row) (before after : List End) (place : ℕ) : Type 0 where
-  pub start : new.start ≡ place
-  pub len : new.len ≡ old.len
-  pub fresh : new.fresh ≡ old.fresh
-  pub run : row_run after new ≡ row_run before old
-
--- the same rows, each one's ends behind those of the row before
-abbrev pub ArePacked : List Row → List Row → List End → List End → Type 0
-ArePacked old new before after = (v : ℕ) (d : Row) → v < length old → IsPacked (slice_index_or old v d) (slice_index_or new v d) before after (sum_by len_of (take v old))
-
 -- no row's ends lie behind the place that they will have
 abbrev pub AreLow : List Row → Type 0
 AreLow rows = (v : ℕ) (d : Row) → v < length rows → (slice_index_or rows v d).start ≤ sum_by want_of (take v rows)

@@ -1,10 +1,10 @@
 //! The ends of each vertex of one side, contiguous and oldest first.
-ghost use Rattle.std.specs.Prelude.{◌≡◌, ◌+◌, ◌-◌, ◌<◌, ◌≤◌, [], ◌++◌, IfOk, IfSome, replicate, length, slice_get, slice_index_or, Some, IsTrue, vec_capacity};
+ghost use Rattle.std.specs.Prelude.{◌≡◌, ◌+◌, ◌-◌, ◌<◌, ◌≤◌, [], ◌++◌, IfOk, IfSome, replicate, length, slice_get, slice_index_or, Some, vec_capacity};
 ghost use Rattle.std.specs.Prelude.{ℕ, List, map, filter, take, drop, count_by, sum_by};
 ghost use Rattle.gj_compact.specs.Blocks.{lets_through, moments_between, AreBounds};
 ghost use Rattle.gj_compact.specs.declared.lane.Row.{Row};
 ghost use Rattle.gj_compact.specs.Lanes.{run_of, pushed, popped, noted, opened, emptied, wanted, want_of, row_run, AreLaid, unused_row};
-ghost use Rattle.gj_compact.specs.Moves.{len_of, ArePacked, AreLow, AreReady};
+ghost use Rattle.gj_compact.specs.Moves.{AreLow, AreReady};
 
 use crate::cells::Cells;
 use crate::edge::End;
@@ -90,58 +90,28 @@ fn want(rows: &[Row]) -> u32
     want
 }
 
-/// Puts each run behind the one before, with no room between.
-fn pack(rows: &mut [Row], cells: &mut Cells)
-    requires laid { AreLaid rows.old (length cells.old.ends) }
-    requires few { length cells.old.ends ≤ 8388608 }
-    ensures packed { ArePacked rows.old rows.new cells.old.ends cells.new.ends }
-    ensures inside { sum_by len_of rows.old ≤ length cells.new.ends }
-    ensures room { cells.new.room ≡ cells.old.room }
-{
-    let mut next = 0;
-    for v in 0..rows.len() {
-        let row = rows[v];
-        cells.move_run(row.start as usize, next as usize, row.len as usize);
-        rows[v] = Row {
-            start: next,
-            len: row.len,
-            spare: 0,
-            fresh: row.fresh,
-        };
-        next += row.len;
-    }
-}
-
-/// Whether no run lies behind the place that it will have, as where none lost an end since they were laid out.
-fn are_low(rows: &[Row]) -> bool
-    requires { sum_by want_of rows.now ≤ 8388608 }
-    ensures { IsTrue result → AreLow rows.now }
-{
-    let mut next = 0;
-    for row in rows {
-        if next < row.start {
-            return false;
-        }
-        next += row.len + row.fresh;
-    }
-    true
-}
-
-/// Sees to it that no run lies behind the place that it will have.
-fn make_way(rows: &mut [Row], cells: &mut Cells)
+/// Moves each run that lies behind the place that it will have to that place.
+fn pull(rows: &mut [Row], cells: &mut Cells)
     requires laid { AreLaid rows.old (length cells.old.ends) }
     requires few { length cells.old.ends ≤ 8388608 }
     requires want { sum_by want_of rows.old ≤ 8388608 }
     ensures ready { AreReady rows.old rows.new cells.old.ends cells.new.ends }
     ensures room { cells.new.room ≡ cells.old.room }
 {
-    if are_low(rows) {
-        return;
+    let mut next = 0;
+    for v in 0..rows.len() {
+        let row = rows[v];
+        let place = row.start.min(next);
+        cells.move_run(row.start as usize, place as usize, row.len as usize);
+        rows[v] = Row {
+            start: place,
+            ..row
+        };
+        next += row.len + row.fresh;
     }
-    pack(rows, cells);
 }
 
-/// Gives each run its room, from the last one to the first.
+/// Moves each run to its place, from the last one to the first, where none lies behind it.
 fn spread(rows: &mut [Row], cells: &mut Cells)
     requires low { AreLow rows.old }
     requires size { length cells.old.ends ≡ sum_by want_of rows.old }
@@ -183,7 +153,7 @@ fn lay_out(rows: &mut [Row], cells: &mut Cells)
     ensures room { cells.new.room ≡ cells.old.room }
 {
     let count = want(rows);
-    make_way(rows, cells);
+    pull(rows, cells);
     cells.make(count);
     spread(rows, cells);
 }

@@ -1,5 +1,5 @@
--- Runs moved in one array, each behind the one before.
-use Rattle.std.proofs.Common.{◌≡◌, ℕ, zero, suc, ◌+◌, ◌-◌, ◌<◌, ◌≤◌, ◌∙◌, List, [], ◌∷◌, length, map, take, drop, set, get_or, refl, arith, sym, ap, inl, inr}
+-- Runs moved to the front in one array.
+use Rattle.std.proofs.Common.{◌≡◌, ℕ, zero, suc, ◌+◌, ◌-◌, ◌<◌, ◌≤◌, ◌∙◌, List, [], ◌∷◌, length, map, take, drop, set, get_or, min, refl, arith, sym, ap, inl, inr}
 use Rattle.std.specs.List.{sum_by}
 use Rattle.std.proofs.lemmas.Bool.{cases_eq}
 use Rattle.std.proofs.lemmas.List.{length-map, length-set, get_or-map, get_or-set_same, get_or-set_other, ext_get_or, drop-take, take-take, drop-drop, get_or_default}
@@ -7,7 +7,7 @@ use Rattle.std.proofs.lemmas.List.Sums.{sum_by_more, sum_by_more_le, sum_by-cons
 use Rattle.gj_compact.specs.declared.lane.Row.{Row}
 use Rattle.gj_compact.specs.declared.edge.End.{End}
 use Rattle.gj_compact.specs.Lanes.{AreLaid, row_run, row_end, want_of}
-use Rattle.gj_compact.specs.Moves.{len_of, IsPacked, ArePacked, AreLow, AreReady}
+use Rattle.gj_compact.specs.Moves.{AreReady, IsKept}
 
 -- what lies before a place is read from there
 pub run_within : (xs : List End) (start len to : ℕ) → start + len ≤ to → take len (drop start xs) ≡ take len (drop start (take to xs))
@@ -47,76 +47,98 @@ sum_same f (x ∷ xs) (y ∷ ys) (suc n) long each =
     let here = each zero x (omega arith) in
     omega (arith, rest, here, sum_by-cons f x (take n xs), sum_by-cons f y (take n ys))
 
--- the first v rows are packed, up to next, and the others lie where they did
-pub record PackedTo (old rows : List Row) (cells0 cells : List End) (v next : ℕ) : Type 0 where
+-- of the first v rows none lies behind its place, and the others lie where they did
+pub record PulledTo (old rows : List Row) (cells0 cells : List End) (v next : ℕ) : Type 0 where
   pub long : length rows ≡ length old
   pub size : length cells ≡ length cells0
   pub rest : (w : ℕ) (d : Row) → v ≤ w → w < length old → get_or rows w d ≡ get_or old w d
-  pub next_is : next ≡ sum_by len_of (take v old)
-  pub low : (w : ℕ) (d : Row) → v ≤ w → w < length old → next ≤ (get_or old w d).start
-  pub inside : next ≤ length cells0
-  pub back : drop next cells ≡ drop next cells0
-  pub within : (w : ℕ) (d : Row) → w < v → w < length old → (get_or rows w d).start + (get_or rows w d).len ≤ next
-  pub packed : (w : ℕ) (d : Row) → w < v → w < length old → IsPacked (get_or old w d) (get_or rows w d) cells0 cells (sum_by len_of (take w old))
+  pub next_is : next ≡ sum_by want_of (take v old)
+  pub back : (w : ℕ) (d : Row) → v ≤ w → w < length old → row_run cells (get_or old w d) ≡ row_run cells0 (get_or old w d)
+  pub low : (w : ℕ) (d : Row) → w < v → w < length old → (get_or rows w d).start ≤ sum_by want_of (take w old)
+  pub left : (w : ℕ) (d : Row) → w < v → w < length old → (get_or rows w d).start ≤ (get_or old w d).start
+  pub ends : (w : ℕ) (d : Row) → w < v → w < length old → (get_or rows w d).start + (get_or rows w d).len ≤ next
+  pub kept : (w : ℕ) (d : Row) → w < v → w < length old → IsKept (get_or old w d) (get_or rows w d) cells0 cells
 
-pub packed_none : (old : List Row) (cells : List End) → PackedTo old old cells cells 0 0
-packed_none old cells = record {
+pub pulled_none : (old : List Row) (cells : List End) → PulledTo old old cells cells 0 0
+pulled_none old cells = record {
   long = refl;
   size = refl;
   rest = λ w d a b. refl;
   next_is = refl;
-  low = λ w d a b. omega arith;
-  inside = omega arith;
-  back = refl;
-  within = λ w d a b. absurd (omega arith);
-  packed = λ w d a b. absurd (omega arith);
+  back = λ w d a b. refl;
+  low = λ w d a b. absurd (omega arith);
+  left = λ w d a b. absurd (omega arith);
+  ends = λ w d a b. absurd (omega arith);
+  kept = λ w d a b. absurd (omega arith);
 }
 
-pub packed_more : (old rows : List Row) (cells0 cells cells' : List End) (v next : ℕ) (row : Row) → PackedTo old rows cells0 cells v next → AreLaid old (length cells0) → v < length old
-    → row ≡ get_or rows v row → take row.len (drop next cells') ≡ take row.len (drop row.start cells) → take next cells' ≡ take next cells
-    → drop (next + row.len) cells' ≡ drop (next + row.len) cells → length cells' ≡ length cells
-    → PackedTo old (set rows v (record { start = next; len = row.len; spare = 0; fresh = row.fresh })) cells0 cells' (v + 1) (next + row.len)
-packed_more old rows cells0 cells cells' v next row so laid below is copied before after size =
-    let new : Row = record { start = next; len = row.len; spare = 0; fresh = row.fresh } in
+pub pulled_more : (old rows : List Row) (cells0 cells cells' : List End) (v next place : ℕ) (row : Row) → PulledTo old rows cells0 cells v next → AreLaid old (length cells0) → v < length old
+    → row ≡ get_or rows v row → place ≡ min row.start next
+    → take row.len (drop place cells') ≡ take row.len (drop row.start cells) → take place cells' ≡ take place cells
+    → drop (place + row.len) cells' ≡ drop (place + row.len) cells → length cells' ≡ length cells
+    → PulledTo old (set rows v (record { start = place; len = row.len; spare = row.spare; fresh = row.fresh })) cells0 cells' (v + 1) (next + (row.len + row.fresh))
+pulled_more old rows cells0 cells cells' v next place row so laid below is least copied before after size =
+    let new : Row = record { start = place; len = row.len; spare = row.spare; fresh = row.fresh } in
     let in_rows : v < length rows = omega (arith, below, so.long) in
     let was : row ≡ get_or old v row = is ∙ so.rest v row (omega arith) below in
-    let ends : row_end row ≤ length cells0 = omega (arith, laid.within v row below, ap row_end was) in
-    let low : next ≤ row.start = omega (arith, so.low v row (omega arith) below, ap (λ (r : Row). r.start) was) in
-    let run : take row.len (drop next cells') ≡ take row.len (drop row.start cells0) = copied ∙ ap (take row.len) (rest_kept cells cells0 next row.start low so.back) in
+    let under : place ≤ row.start = omega (arith, least) in
+    let most : place ≤ next = omega (arith, least) in
+    let inside : row_end row ≤ length cells0 = omega (arith, laid.within v row below, ap row_end was) in
+    let at_v : (w : ℕ) (d : Row) → w ≡ v → get_or (set rows v new) w d ≡ new = λ w d e. ap (λ (n : ℕ). get_or (set rows v new) n d) e ∙ get_or-set_same rows v new d in_rows in
+    let old_at : (w : ℕ) (d : Row) → w ≡ v → get_or old w d ≡ row = λ w d e. ap (λ (n : ℕ). get_or old n d) e ∙ (get_or_default old v d row below ∙ sym was) in
+    let run : take row.len (drop place cells') ≡ take row.len (drop row.start cells0) =
+    copied ∙ (ap (row_run cells) was ∙ (so.back v row (omega arith) below ∙ sym (ap (row_run cells0) was))) in
     record {
       long = length-set rows v new ∙ so.long;
       size = size ∙ so.size;
       rest = λ w d a b. get_or-set_other rows v w new d (omega arith) ∙ so.rest w d (omega arith) b;
-      next_is = omega (arith, so.next_is, sum_by_more len_of old v row below, ap len_of was);
-      low = λ w d a b. omega (arith, low, laid.apart v w d (omega arith) b, ap row_end (get_or_default old v d row below), ap row_end was);
-      inside = omega (arith, low, ends);
-      back = after ∙ rest_kept cells cells0 next (next + row.len) (omega arith) so.back;
-      within = λ w d a b. elim (cases_eq w v) [
-        | inl e ↦
-            let here : get_or (set rows v new) w d ≡ new = ap (λ (n : ℕ). get_or (set rows v new) n d) e ∙ get_or-set_same rows v new d in_rows in
-            rw here (omega arith)
-        | inr ne ↦
-            let same : get_or (set rows v new) w d ≡ get_or rows w d = get_or-set_other rows v w new d ne in
-            rw same (omega (arith, so.within w d (omega (arith, a, ne)) b))
+      next_is = omega (arith, so.next_is, sum_by_more want_of old v row below, ap want_of was);
+      back = λ w d a b.
+          let apart = laid.apart v w d (omega arith) b in
+          let behind : place + row.len ≤ (get_or old w d).start = omega (arith, under, apart, ap row_end (old_at v d refl)) in
+          ap (take (get_or old w d).len) (rest_kept cells' cells (place + row.len) (get_or old w d).start behind after) ∙ so.back w d (omega arith) b;
+      low = λ w d a b. elim (cases_eq w v) [
+        | inl e ↦ omega (arith, ap (λ (r : Row). r.start) (at_v w d e), most, so.next_is, ap (λ (n : ℕ). sum_by want_of (take n old)) e)
+        | inr ne ↦ omega (arith, ap (λ (r : Row). r.start) (get_or-set_other rows v w new d ne), so.low w d (omega (arith, a, ne)) b)
       ];
-      packed = λ w d a b. elim (cases_eq w v) [
+      left = λ w d a b. elim (cases_eq w v) [
+        | inl e ↦ omega (arith, ap (λ (r : Row). r.start) (at_v w d e), under, ap (λ (r : Row). r.start) (old_at w d e))
+        | inr ne ↦ omega (arith, ap (λ (r : Row). r.start) (get_or-set_other rows v w new d ne), so.left w d (omega (arith, a, ne)) b)
+      ];
+      ends = λ w d a b. elim (cases_eq w v) [
+        | inl e ↦ omega (arith, ap (λ (r : Row). r.start + r.len) (at_v w d e), most)
+        | inr ne ↦ omega (arith, ap (λ (r : Row). r.start + r.len) (get_or-set_other rows v w new d ne), so.ends w d (omega (arith, a, ne)) b)
+      ];
+      kept = λ w d a b. elim (cases_eq w v) [
         | inl e ↦
-            let here : get_or (set rows v new) w d ≡ new = ap (λ (n : ℕ). get_or (set rows v new) n d) e ∙ get_or-set_same rows v new d in_rows in
-            let there : get_or old w d ≡ row = ap (λ (n : ℕ). get_or old n d) e ∙ (get_or_default old v d row below ∙ sym was) in
-            let at : next ≡ sum_by len_of (take w old) = so.next_is ∙ sym (ap (λ (n : ℕ). sum_by len_of (take n old)) e) in
-            rw (here, there) (record { start = at; len = refl; fresh = refl; run = run })
+            let here = at_v w d e in
+            let there = old_at w d e in
+            rw (here, there) (record { len = refl; fresh = refl; run = run; inside = omega (arith, under, inside, size, so.size) })
         | inr ne ↦
             let lower : w < v = omega (arith, a, ne) in
             let same : get_or (set rows v new) w d ≡ get_or rows w d = get_or-set_other rows v w new d ne in
-            let m = so.packed w d lower b in
+            let m = so.kept w d lower b in
+            let front : (get_or rows w d).start + (get_or rows w d).len ≤ place =
+            omega (arith, least, so.ends w d lower b, so.left w d lower b, m.len, laid.apart w v d lower below, ap (λ (r : Row). r.start) (old_at v d refl)) in
             rw same (record {
-              start = m.start;
               len = m.len;
               fresh = m.fresh;
-              run = run_kept cells' cells (get_or rows w d).start (get_or rows w d).len next (so.within w d lower b) before ∙ m.run;
+              run = run_kept cells' cells (get_or rows w d).start (get_or rows w d).len place front before ∙ m.run;
+              inside = omega (arith, m.inside, size);
             })
       ];
     }
+
+-- when all are
+pub pulled_all : (old rows : List Row) (cells0 cells : List End) (v next : ℕ) → PulledTo old rows cells0 cells v next → length old ≤ v → AreReady old rows cells0 cells
+pulled_all old rows cells0 cells v next so past = record {
+  low = λ w d h.
+      let below : w < length old = omega (arith, h, so.long) in
+      let same : sum_by want_of (take w rows) ≡ sum_by want_of (take w old) =
+      sum_same want_of rows old w so.long (λ u e a. omega (arith, (so.kept u e (omega arith) a).len, (so.kept u e (omega arith) a).fresh)) in
+      omega (arith, so.low w d (omega arith) below, same);
+  kept = λ w d h. so.kept w d (omega arith) h;
+}
 
 sum_all : (f : Row → ℕ) (xs ys : List Row) → length xs ≡ length ys → ((v : ℕ) (d : Row) → v < length ys → f (get_or xs v d) ≡ f (get_or ys v d)) → sum_by f xs ≡ sum_by f ys
 sum_all f [] [] long each = refl
@@ -126,33 +148,6 @@ sum_all f (x ∷ xs) (y ∷ ys) long each =
     let rest = sum_all f xs ys (omega arith) (λ v d h. each (suc v) d (omega arith)) in
     let here = each zero x (omega arith) in
     omega (arith, rest, here, sum_by-cons f x xs, sum_by-cons f y ys)
-
--- what a vertex wants is no less than what it has
-len_most : (rows : List Row) (n : ℕ) → sum_by len_of (take n rows) ≤ sum_by want_of (take n rows)
-len_most rows zero = omega arith
-len_most [] (suc n) = omega arith
-len_most (row ∷ rows) (suc n) =
-    let rest = len_most rows n in
-    omega (arith, rest, sum_by-cons len_of row (take n rows), sum_by-cons want_of row (take n rows))
-
--- packed rows are ready
-pub packed_ready : (old rows : List Row) (cells0 cells : List End) → length rows ≡ length old → ArePacked old rows cells0 cells → sum_by len_of old ≤ length cells → AreReady old rows cells0 cells
-packed_ready old rows cells0 cells long packed inside = record {
-  low = λ v d h.
-      let below : v < length old = omega (arith, h, long) in
-      let same : sum_by want_of (take v rows) ≡ sum_by want_of (take v old) = sum_same want_of rows old v long (λ w e a. omega (arith, (packed w e a).len, (packed w e a).fresh)) in
-      omega (arith, (packed v d below).start, len_most old v, same);
-  kept = λ v d h.
-      let p = packed v d h in
-      record { len = p.len; fresh = p.fresh; run = p.run; inside = omega (arith, p.start, p.len, sum_by_more_le len_of old v d h, inside) };
-}
-
--- so are rows that lie low as they are
-pub low_ready : (rows : List Row) (cells : List End) → AreLaid rows (length cells) → AreLow rows → AreReady rows rows cells cells
-low_ready rows cells laid low = record {
-  low = low;
-  kept = λ v d h. record { len = refl; fresh = refl; run = refl; inside = omega (arith, laid.within v d h) };
-}
 
 -- they want what they wanted
 pub ready_wanted : (old rows : List Row) (cells0 cells : List End) → length rows ≡ length old → AreReady old rows cells0 cells → sum_by want_of rows ≡ sum_by want_of old
