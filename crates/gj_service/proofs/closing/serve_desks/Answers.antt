@@ -1,5 +1,6 @@
 use Rattle.std.proofs.Common.{◌≡◌, ℕ, ◌+◌, ◌<◌, List, length, slice_index_or, rules, arith, subst}
 use Rattle.gj_serve.specs.Passes.{DeskServed}
+use Rattle.gj_serve.proofs.GivenLemmas.{are_served_later}
 use Rattle.gj_serve.specs.declared.desks.Desk.{Desk}
 use Rattle.gj_service.specs.Desks.{IsServedDesk}
 use Rattle.gj_service.proofs.DeskLemmas.{all_changed}
@@ -20,3 +21,7 @@ clear-passes-requires-clause-served g c =
     let s = served k d lt in
     let fresh = c.requires.fresh k d lt in
     record { all_back = s.all_back; told = s.told; entered = omega (arith, s.entered, fresh.posted) }))
+
+pub returns-clause-given : goal.returns-clause-given
+returns-clause-given g c =
+    are_served_later _ _ _ _ _ _ _ _ _ _ _ _ c.confirm.ensures.begins c.into_door.ensures.given
