@@ -213,6 +213,31 @@ fn a_session_ends_as_its_bytes_do(rt: HostRuntime) -> Result<(), Fail> {
     Ok(())
 }
 
+// The sink takes ten bytes a call, and fails its second call.
+#[test]
+fn what_was_posted_before_a_write_fault_is_seen_over_the_next_link(
+    rt: HostRuntime,
+) -> Result<(), Fail> {
+    let alloc = rt.alloc();
+    let source = MemorySource::new(POST.to_vec(alloc)?, 4096, Vec::new(alloc));
+    let sink = MemorySink::new(alloc, 4096, 10, vec![in alloc; 2]?)?;
+    let first = MemoryLink::new(source, sink);
+    let second = link_over(alloc, WALK, 4096).expect(&rt, "there is memory");
+    let Both { first, second } = served(&rt, alloc, (first, second), &OpenGate).expect(
+        &rt,
+        "there is memory",
+    );
+    assert_eq!(rt; *first.end(), End::WriteFault);
+    assert_eq!(rt; first.entered(), 1);
+    assert_eq!(rt;
+        first.into_link().sink().written(),
+        b"HTTP/1.1 2".as_slice()
+    );
+    assert_eq!(rt; *second.end(), End::Finished);
+    assert_eq!(rt; second.into_link().sink().written(), WALKED);
+    Ok(())
+}
+
 /// A client that sends so many of the messages, each once the replies to those before have come.
 fn waiting(alloc: Global, message: &[u8], count: u64, reply: usize) -> Option<Waiting>
     requires { 0 < length message.now }

@@ -79,3 +79,37 @@ fn a_fault_or_a_cut_ends_a_follower_by_its_status(rt: HostRuntime) -> Result<(),
     assert_eq!(rt; write.err.written(), b"write fault\n".as_slice());
     Ok(())
 }
+
+/// The page A, a line of so many blanks, and the page B.
+fn with_blanks(alloc: Global, count: usize) -> Result<Vec<u8>, Fail> {
+    let mut input = A.to_vec(alloc)?;
+    let mut blanks = Vec::new(alloc);
+    blanks.resize(count, b' ')?;
+    input.extend_from_slice(&blanks)?;
+    input.extend_from_slice(b"\n")?;
+    input.extend_from_slice(B)?;
+    Ok(input)
+}
+
+// What follows the longer line is neither applied nor answered, and no last line is written.
+#[test]
+fn a_longer_line_ends_a_follower(rt: HostRuntime) -> Result<(), Fail> {
+    let alloc = rt.alloc();
+    for (count, status, out, err) in [
+        (1_048_576, 0, "added 2\nbad\nadded 1\nlength 3 base 0\n", ""),
+        (1_048_577, 9, "added 2\n", "stopped early\n"),
+    ] {
+        let ran = run_with(
+            alloc,
+            "follow",
+            with_blanks(alloc, count)?,
+            4096,
+            4096,
+            [0; 3],
+        )?;
+        assert_eq!(rt; ran.status, status, "{count}");
+        assert_eq!(rt; ran.out.written(), out.as_bytes(), "{count}");
+        assert_eq!(rt; ran.err.written(), err.as_bytes(), "{count}");
+    }
+    Ok(())
+}

@@ -117,21 +117,33 @@ fn both_links_are_served_and_come_back(rt: HostRuntime) -> Result<(), Fail> {
 fn a_fault_of_the_door_is_told(rt: HostRuntime) -> Result<(), Fail> {
     let alloc = rt.alloc();
     let input = joined(alloc, POST, WALK)?;
-    for (fails, written) in [
-        (1, b"".as_slice()),
-        (2, b"ready 1\nsessions 0 length 0\n".as_slice()),
-        (3, b"ready 1\nsessions 1 length 1\n".as_slice()),
+    let replies = joined(alloc, POSTED, WALKED)?;
+    for (fails, line, written, served_links) in [
+        (1, "serve --workers 1 --port 1", b"".as_slice(), 0),
+        (
+            2,
+            "serve --workers 1 --port 1",
+            b"ready 1\nsessions 0 length 0\n".as_slice(),
+            0,
+        ),
+        (
+            3,
+            "serve --workers 1",
+            b"ready 8017\nsessions 1 length 1\n".as_slice(),
+            1,
+        ),
     ] {
         let door = door_of(alloc, input.as_slice(), vec![in alloc; fails]?)?;
-        let line = "serve --workers 1 --port 1";
         let mut stores = new_stores(alloc);
-        let Left {
-            status,
-            out,
-            door: _,
-        } = served(&rt, alloc, line, door, &mut stores)?;
+        let Left { status, out, door } = served(&rt, alloc, line, door, &mut stores)?;
         assert_eq!(rt; status, 8, "call {fails}");
         assert_eq!(rt; out.written(), written, "call {fails}");
+        let back = door.into_back();
+        assert_eq!(rt; back.len(), served_links, "call {fails}");
+        for done in back {
+            let link = done.into_link();
+            assert_eq!(rt; link.sink().written(), replies.as_slice(), "call {fails}");
+        }
     }
     Ok(())
 }
@@ -152,7 +164,9 @@ fn a_replay_goes_on_where_a_service_ended(rt: HostRuntime) -> Result<(), Fail> {
         b"ready 8017\nsessions 1 length 1\n".as_slice()
     );
     let replies = joined(alloc, POSTED, WALKED)?;
-    for done in door.into_back() {
+    let back = door.into_back();
+    assert_eq!(rt; back.len(), 1);
+    for done in back {
         let link = done.into_link();
         assert_eq!(rt; link.sink().written(), replies.as_slice());
     }
@@ -160,5 +174,50 @@ fn a_replay_goes_on_where_a_service_ended(rt: HostRuntime) -> Result<(), Fail> {
     let ran = over(alloc, line, STATS.to_vec(alloc)?, &mut stores)?;
     assert_eq!(rt; ran.status, 0);
     assert!(rt; ran.out.written().ends_with(ONE_FAVORITE));
+    Ok(())
+}
+
+/// The replies to the same posts and walk, after one favorite.
+const POSTED_NEXT: &[u8] =
+    b"HTTP/1.1 200 OK\r\nContent-Type: application/json\r\nContent-Length: 21\r\nConnection: keep-alive\r\n\r\n{\"from\":1,\"length\":2}";
+
+const WALKED_NEXT: &[u8] =
+    b"HTTP/1.1 200 OK\r\nContent-Type: application/json\r\nContent-Length: 59\r\nConnection: keep-alive\r\n\r\n{\"length\":2,\"results\":[{\"post\":10,\"visits\":3,\"proof\":[1]}]}";
+
+/// A door of three links with a post and a walk as input. The first read of the second link fails.
+fn door_of_three(alloc: Global) -> Result<MemoryDoor, Fail>
+    ensures { IfOk result (λ d. (handed_by d ≡ 0) × (back_at d ≡ 0) × (nones_of d ≡ 0) × (entered_by d ≡ 0)) }
+{
+    let mut links = Vec::with_capacity(alloc, 3)?;
+    let first = link_over(alloc, joined(alloc, POST, WALK)?, 0)?;
+    let second = link_over(alloc, joined(alloc, POST, WALK)?, 1)?;
+    let third = link_over(alloc, joined(alloc, POST, WALK)?, 0)?;
+    links.push_reserved(first);
+    links.push_reserved(second);
+    links.push_reserved(third);
+    Ok(MemoryDoor::new(alloc, links, Vec::new(alloc))?)
+}
+
+#[test]
+fn a_link_that_fails_ends_its_own_session_alone(rt: HostRuntime) -> Result<(), Fail> {
+    let alloc = rt.alloc();
+    let door = door_of_three(alloc)?;
+    let mut stores = new_stores(alloc);
+    let line = "serve --workers 1 --sessions 4";
+    let Left { status, out, door } = served(&rt, alloc, line, door, &mut stores)?;
+    assert_eq!(rt; status, 0);
+    assert_eq!(rt;
+        out.written(),
+        b"ready 8017\nsessions 3 length 2\n".as_slice()
+    );
+    let replies = joined(alloc, POSTED, WALKED)?;
+    let next = joined(alloc, POSTED_NEXT, WALKED_NEXT)?;
+    let back = door.into_back();
+    assert_eq!(rt; back.len(), 3);
+    let written = [replies.as_slice(), b"".as_slice(), next.as_slice()];
+    for (done, written) in back.into_iter().zip(written) {
+        let link = done.into_link();
+        assert_eq!(rt; link.sink().written(), written);
+    }
     Ok(())
 }

@@ -216,28 +216,68 @@ fn eight(alloc: Global) -> Result<Vec<u8>, Fail> {
     Ok(bytes)
 }
 
-// The replies to the posts that are kept have 116, 117, 118 and 118 bytes, and that for the store's fault has 129.
+/// The replies to posts of eight interactions that are kept.
+const EIGHTS: [&[u8]; 4] = [
+    b"HTTP/1.1 200 OK\r\nContent-Type: application/json\r\nContent-Length: 21\r\nConnection: keep-alive\r\n\r\n{\"from\":0,\"length\":8}",
+    b"HTTP/1.1 200 OK\r\nContent-Type: application/json\r\nContent-Length: 22\r\nConnection: keep-alive\r\n\r\n{\"from\":8,\"length\":16}",
+    b"HTTP/1.1 200 OK\r\nContent-Type: application/json\r\nContent-Length: 23\r\nConnection: keep-alive\r\n\r\n{\"from\":16,\"length\":24}",
+    b"HTTP/1.1 200 OK\r\nContent-Type: application/json\r\nContent-Length: 23\r\nConnection: keep-alive\r\n\r\n{\"from\":24,\"length\":32}",
+];
+
+const NOT_STORED: &[u8] =
+    b"HTTP/1.1 503 Service Unavailable\r\nContent-Type: application/json\r\nContent-Length: 17\r\nConnection: keep-alive\r\n\r\n{\"error\":\"store\"}";
+
+/// These, and the reply to a post that the store refused behind so many of them.
+fn with_refused(alloc: Global, before: usize) -> Result<Vec<u8>, Fail> {
+    let mut bytes = Vec::new(alloc);
+    for reply in EIGHTS.iter().take(before) {
+        bytes.extend_from_slice(reply)?;
+    }
+    bytes.extend_from_slice(NOT_STORED)?;
+    for reply in EIGHTS.iter().skip(before) {
+        bytes.extend_from_slice(reply)?;
+    }
+    Ok(bytes)
+}
+
+/// The input of five posts of eight interactions each.
+fn five_posts(alloc: Global) -> Result<Vec<u8>, Fail> {
+    times(alloc, eight(alloc)?.as_slice(), 5)
+}
+
+const ONE_SEGMENT: &str = "replay --store s --capacity 16 --segments 1";
+
+// The keeper's first three calls open it.
+#[test]
+fn a_store_that_fails_before_the_session_keeps_nothing(rt: HostRuntime) -> Result<(), Fail> {
+    let alloc = rt.alloc();
+    for call in 1..4 {
+        let mut stores = stores_of(alloc, None, Vec::new(alloc), vec![in alloc; call]?);
+        let first = over(alloc, ONE_SEGMENT, five_posts(alloc)?, &mut stores)?;
+        let second = over(alloc, ONE_SEGMENT, STATS.to_vec(alloc)?, &mut stores)?;
+        assert_eq!(rt; first.status, 5, "call {call}");
+        assert!(rt; first.out.written().is_empty(), "call {call}");
+        assert_eq!(rt; second.status, 0, "call {call}");
+        assert!(rt; second.out.written().ends_with(NONE_KEPT), "call {call}");
+    }
+    Ok(())
+}
+
+// The fourth post is the first whose window has a later base than the rows that are kept, so it has two calls.
 #[test]
 fn whichever_call_of_the_store_fails_what_was_accepted_is_kept(
     rt: HostRuntime,
 ) -> Result<(), Fail> {
     let alloc = rt.alloc();
-    let line = "replay --store s --capacity 16 --segments 1";
-    for call in 1..10 {
+    for (call, before) in [(4, 0), (5, 1), (6, 2), (7, 3), (8, 3), (9, 4)] {
         let mut stores = stores_of(alloc, None, Vec::new(alloc), vec![in alloc; call]?);
-        let input = times(alloc, eight(alloc)?.as_slice(), 5)?;
-        let first = over(alloc, line, input, &mut stores)?;
-        let second = over(alloc, line, STATS.to_vec(alloc)?, &mut stores)?;
+        let first = over(alloc, ONE_SEGMENT, five_posts(alloc)?, &mut stores)?;
+        let second = over(alloc, ONE_SEGMENT, STATS.to_vec(alloc)?, &mut stores)?;
+        let replies = with_refused(alloc, before)?;
+        assert_eq!(rt; first.status, 0, "call {call}");
+        assert_eq!(rt; first.out.written(), replies.as_slice(), "call {call}");
         assert_eq!(rt; second.status, 0, "call {call}");
-        if call < 4 {
-            assert_eq!(rt; first.status, 5, "call {call}");
-            assert!(rt; first.out.written().is_empty(), "call {call}");
-            assert!(rt; second.out.written().ends_with(NONE_KEPT), "call {call}");
-        } else {
-            assert_eq!(rt; first.status, 0, "call {call}");
-            assert_eq!(rt; first.out.written().len(), 598, "call {call}");
-            assert!(rt; second.out.written().ends_with(LAST_SIXTEEN), "call {call}");
-        }
+        assert!(rt; second.out.written().ends_with(LAST_SIXTEEN), "call {call}");
     }
     Ok(())
 }
