@@ -186,7 +186,7 @@ const WALKED_NEXT: &[u8] =
 
 /// A door of three links with a post and a walk as input. The first read of the second link fails.
 fn door_of_three(alloc: Global) -> Result<MemoryDoor, Fail>
-    ensures { IfOk result (λ d. (handed_by d ≡ 0) × (back_at d ≡ 0) × (nones_of d ≡ 0) × (entered_by d ≡ 0)) }
+    ensures { IfOk result (λ d. (handed_by d ≡ 0) × (back_at d ≡ 0) × (nones_of d ≡ 0) × (entered_by d ≡ 0) × (given_to d ≡ [])) }
 {
     let mut links = Vec::with_capacity(alloc, 3)?;
     let first = link_over(alloc, joined(alloc, POST, WALK)?, 0)?;
