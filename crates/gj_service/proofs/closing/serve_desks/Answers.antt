@@ -24,4 +24,4 @@ clear-passes-requires-clause-served g c =
 
 pub returns-clause-given : goal.returns-clause-given
 returns-clause-given g c =
-    are_served_later _ _ _ _ _ _ _ _ _ _ _ _ c.confirm.ensures.begins c.into_door.ensures.given
+    are_served_later _ _ _ _ _ _ _ _ _ _ _ _ c.confirm.ensures.begins c.into_door-door.ensures.given
