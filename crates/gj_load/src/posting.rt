@@ -1,6 +1,6 @@
 //! The posting of a workload.
 ghost use Rattle.std.specs.Prelude.{◌≡◌, ◌⊎◌, ℕ, ◌+◌, ◌<◌, ◌≤◌, ◌^◌, IfOk, OnOk, IfErr, OnErr};
-ghost use Rattle.gj_base.specs.Causes.{Rose};
+ghost use Rattle.gj_base.specs.Causes.{Rose, faults_posted};
 ghost use Rattle.gj_base.specs.History.{conf_of, empty_history};
 ghost use Rattle.gj_base.specs.declared.index.IndexError.TheVariants as why;
 ghost use Rattle.gj_load.specs.Totals.{KeepsBeginning, history_of, totals_of};
@@ -24,7 +24,7 @@ fn post_batch<I: Index>(
     ensures number { IfOk result (λ x. x ≡ number_after number batch) }
     ensures conf { conf_of (I.viewed index.new) ≡ conf_of (I.viewed index.old) }
     ensures store { IfErr result (λ e. e ≡ why.Store → Rose (I.faults index.old) (I.faults index.new)) }
-    ensures same { OnOk result (I.faults index.new ≡ I.faults index.old) }
+    ensures count { I.faults index.new ≡ faults_posted (I.faults index.old) result }
     ensures full { IfErr result (λ e. (n : ℕ) → e ≡ why.Full n → 2 ^ 48 < end_of (I.viewed index.old) + batch) }
     ensures err { (h : _) → I.keeps index.old h → OnErr result (I.keeps index.new h) }
 {
@@ -52,7 +52,7 @@ fn post_all<I: Index>(
     requires empty { I.keeps index.old (empty_history 0) }
     ensures ok { OnOk result (I.keeps index.new (history_of (items_from number count))) }
     ensures batches { IfOk result (λ batches. batches ≡ (count + 4095) / 4096) }
-    ensures same { OnOk result (I.faults index.new ≡ I.faults index.old) }
+    ensures count { I.faults index.new ≡ faults_posted (I.faults index.old) result }
     ensures conf { conf_of (I.viewed index.new) ≡ conf_of (I.viewed index.old) }
     ensures store { IfErr result (λ e. e ≡ why.Store → Rose (I.faults index.old) (I.faults index.new)) }
     ensures full { IfErr result (λ e. (n : ℕ) → e ≡ why.Full n → ⊥) }
@@ -88,7 +88,7 @@ pub fn run_load<I: Index>(
     requires empty { I.keeps index.old (empty_history 0) }
     ensures ok { IfOk result (λ t. t ≡ totals_of (conf_of (I.viewed index.old)) number count) }
     ensures keeps { OnOk result (I.keeps index.new (history_of (items_from number count))) }
-    ensures same { OnOk result (I.faults index.new ≡ I.faults index.old) }
+    ensures count { I.faults index.new ≡ faults_posted (I.faults index.old) result }
     ensures store { IfErr result (λ e. e ≡ why.Store → Rose (I.faults index.old) (I.faults index.new)) }
     ensures full { IfErr result (λ e. (n : ℕ) → e ≡ why.Full n → ⊥) }
     ensures leaves { KeepsBeginning (I.keeps index.new) number count }

@@ -1,10 +1,11 @@
 -- What stands after the first calls of a list on one writer, and that they take each numbered batch once.
-use Rattle.std.proofs.Common.{◌≡◌, ◌+◌, ◌++◌, ℕ, List, [], ◌∷◌, length, refl, ap, sym, subst, ◌∙◌, append-nil, append_assoc, arith, length-append, add-zero, Result, Ok, Err}
+use Rattle.std.proofs.Common.{◌≡◌, ◌+◌, ◌^◌, ◌<◌, ◌++◌, ℕ, List, [], ◌∷◌, length, refl, ap, sym, subst, ◌∙◌, append-nil, append_assoc, arith, length-append, add-zero, Result, Ok, Err, IfErr}
 use Rattle.std.proofs.lemmas.List.{map-append, length-map}
 use Rattle.gj_base.proofs.Windows.{items_back}
 use Rattle.gj_base.specs.History.{extend, items_of, length_of}
 use Rattle.gj_base.specs.declared.history.History.{History}
 use Rattle.gj_base.specs.declared.item.Entry.{Entry}
+use Rattle.gj_base.specs.declared.item.Item.{Item}
 use Rattle.gj_base.specs.declared.item.Receipt.{Receipt}
 use Rattle.gj_once.specs.declared.noted_index.Noted.{Noted}
 use Rattle.gj_once.specs.declared.noted_index.Noted.TheVariants.{New, Repeated}
@@ -19,10 +20,11 @@ use Rattle.gj_once.proofs.OnceLemmas.{AreSo, IsSo, once_only}
 use Rattle.gj_once.proofs.PostingLemmas.{noted_more}
 use Rattle.gj_publish.specs.declared.refusal.NotedError.{NotedError}
 use Rattle.gj_publish.specs.declared.refusal.NotedError.TheVariants as refused
+use Rattle.gj_publish.specs.declared.refusal.PostError.{PostError}
 use Rattle.gj_publish.specs.declared.refusal.PostError.TheVariants.{Memory, KeptUnseen, Store, Full, NoLook, Apart}
 use Rattle.gj_publish.specs.declared.writer.lists.SeatCall.{SeatCall}
-use Rattle.gj_publish.specs.NotedAnswers.{Answers}
-use Rattle.gj_publish.specs.SeatCalls.{AreAnswers, IsAnswer, entered, entries_in, posts_of, told_of}
+use Rattle.gj_publish.specs.NotedAnswers.{Answers, faults_noted}
+use Rattle.gj_publish.specs.SeatCalls.{AreAnswers, FullOf, FullWhere, IsAnswer, entered, entries_in, faults_answered, posts_of, told_of}
 use Rattle.gj_publish.proofs.Histories.{extend_nil}
 
 -- the calls were answered so; at first this was noted and that was accepted, and now these
@@ -120,6 +122,28 @@ called_more numbers lasts h calls more answers all now next g k made answer done
           brings ∙ (ap (λ (f : History). extend f (entries_in numbers made answer)) done.accepted
           ∙ (extend_both h (entered numbers calls answers) (entries_in numbers made answer) ∙ ap (λ es. extend h es) (sym entries)));
     }
+
+pub faults_more : (count : ℕ) (answers : List (Result Noted NotedError)) (answer : Result Noted NotedError)
+    → faults_answered count (answers ++ answer ∷ []) ≡ faults_noted (faults_answered count answers) answer
+faults_more count [] answer = refl
+faults_more count (one ∷ answers) answer = faults_more (faults_noted count one) answers answer
+
+-- a full history is told where there is no room
+pub full_of : (before : ℕ) (items : List Item) (error : PostError) → ((n : ℕ) → error ≡ Full n → (n ≡ before) × (2 ^ 48 < before + length items)) → FullOf before items error
+full_of before items Memory told = tt
+full_of before items (KeptUnseen r) told = tt
+full_of before items Store told = tt
+full_of before items (Full n) told = told n refl
+full_of before items (NoLook why) told = tt
+full_of before items (Apart seen shown posted counted) told = tt
+
+pub full_where : (before : ℕ) (items : List Item) (answer : Result Noted NotedError)
+    → IfErr answer (λ error. (n : ℕ) → error ≡ refused.Post (Full n) → (n ≡ before) × (2 ^ 48 < before + length items)) → FullWhere before items answer
+full_where before items (Ok noted) told = tt
+full_where before items (Err (refused.Post error)) told = full_of before items error (λ n e. told n (ap refused.Post e))
+full_where before items (Err (refused.RepeatUnseen r)) told = tt
+full_where before items (Err (refused.Old last)) told = tt
+full_where before items (Err (refused.Skipped last)) told = tt
 
 -- what an answer says of the verdict
 new_verdict : (v : Verdict) (r : Receipt) → Answers v (Ok (New r)) → v ≡ verdict.Fresh

@@ -1,5 +1,6 @@
 -- What each answer does to the numbers of a seat, and which answers come after the look of a post.
-use Rattle.std.specs.Prelude.{Result, Ok, Err}
+use Rattle.std.specs.Prelude.{ℕ, Result, Ok, Err}
+use Rattle.gj_base.specs.Causes.{one_more}
 use Rattle.gj_base.specs.declared.item.Receipt.{Receipt}
 use Rattle.gj_publish.specs.declared.refusal.NoLook.{NoLook}
 use Rattle.gj_publish.specs.declared.refusal.PostError.{PostError}
@@ -47,3 +48,17 @@ IsUnmet refused.Store = ⊥
 IsUnmet (refused.Full n) = ⊥
 IsUnmet (refused.NoLook why) = Unit {0}
 IsUnmet (refused.Apart seen shown posted counted) = Unit {0}
+
+-- the count of the keeper's faults after a post that is refused so: one more where a call of it failed
+abbrev pub faults_told : ℕ → PostError → ℕ
+faults_told count refused.Memory = count
+faults_told count (refused.KeptUnseen r) = count
+faults_told count refused.Store = one_more count
+faults_told count (refused.Full n) = count
+faults_told count (refused.NoLook why) = count
+faults_told count (refused.Apart seen shown posted counted) = count
+
+-- after a post with this answer
+abbrev pub faults_after_post : ℕ → Result Receipt PostError → ℕ
+faults_after_post count (Ok r) = count
+faults_after_post count (Err why) = faults_told count why

@@ -12,7 +12,7 @@ use Rattle.gj_publish.specs.declared.refusal.NotedError.{NotedError}
 use Rattle.gj_publish.specs.declared.refusal.NotedError.TheVariants as refused
 use Rattle.gj_publish.specs.declared.refusal.PostError.{PostError}
 use Rattle.gj_publish.specs.declared.refusal.PostError.TheVariants as why
-use Rattle.gj_publish.specs.Answers.{IfMet, IsUnmet, after_error}
+use Rattle.gj_publish.specs.Answers.{IfMet, IsUnmet, after_error, faults_told}
 use Rattle.gj_publish.specs.Seats.{Numbers, after_verdict, looked}
 
 -- P of the places, if the batch entered the history at this call and is shown
@@ -108,3 +108,11 @@ after_answer (Err (refused.Skipped last)) numbers = numbers
 -- a noted post raises the number of its verdict, and those that a post raises where it looks or is refused
 abbrev pub after_noted : Verdict → Result Noted NotedError → Numbers → Numbers
 after_noted verdict result numbers = after_answer result (after_verdict verdict numbers)
+
+-- the count of the keeper's faults after the answer
+abbrev pub faults_noted : ℕ → Result Noted NotedError → ℕ
+faults_noted count (Ok noted) = count
+faults_noted count (Err (refused.Post error)) = faults_told count error
+faults_noted count (Err (refused.RepeatUnseen receipt)) = count
+faults_noted count (Err (refused.Old last)) = count
+faults_noted count (Err (refused.Skipped last)) = count

@@ -50,6 +50,7 @@ fn seated<J: Opening, W: Grow + Drop, R: Wait + Drop>(
     ensures same { IfOk result (λ _. grants.new ≡ grants.old) }
     ensures err { IfErr result (λ why. (why ≡ Memory) ⊎ (why ≡ Place)) }
     ensures place { IfErr result (λ why. why ≡ Place → grants.new ≡ grants.old + 1) }
+    ensures others { IfErr result (λ why. why ≢ Place → grants.new ≡ grants.old) }
     ensures later { grants.old ≤ grants.new }
 {
     let Ok(mut seats) = Vec::with_capacity(alloc, places as usize) else {
@@ -109,6 +110,7 @@ fn parts_of<J: Opening, W: Grow + Drop, R: Wait + Drop>(
     ensures same { IfOk result (λ _. grants.new ≡ grants.old) }
     ensures err { IfErr result (λ why. (why ≡ Memory) ⊎ (why ≡ Place)) }
     ensures place { IfErr result (λ why. why ≡ Place → grants.new ≡ grants.old + 1) }
+    ensures others { IfErr result (λ why. why ≢ Place → grants.new ≡ grants.old) }
     ensures later { grants.old ≤ grants.new }
 {
     let Naming { blank, history } = naming;
@@ -187,8 +189,9 @@ pub fn open_index<J: Opening, K: Keeper + Drop, W: Grow + Drop, R: Wait + Drop>(
     ensures each { IfOk result (λ r. (i : ℕ) (d : _) → i < places → slice_index_or r.1.items i d ≡ record { number = i + 1; front = r.0.accepted; posted = 0; numbers = no_numbers }) }
     ensures kept { IfOk result (λ r. IsPrepared conf (K.kept keeper) r.0.kept) }
 
-    // `Place` comes only where the number of grants rose. Every other refusal is one of opening a book.
+    // `Place` comes where the number of grants rose, and nowhere else. Every other refusal is one of opening a book.
     ensures place { IfErr result (λ r. r.why ≡ Place → grants.new ≡ grants.old + 1) }
+    ensures granted { MatchResult result (λ _. grants.new ≡ grants.old) (λ r. r.why ≢ Place → grants.new ≡ grants.old) }
     ensures ok { IsTrue (K.kept keeper).tells → OnOk result (due conf (K.kept keeper) ≡ None) }
     ensures refused { IsTrue (K.kept keeper).tells → IfErr result (λ r. r.why ≢ Place → MayRefuse (due conf (K.kept keeper)) r.why) }
     ensures bare_refused { IsTrue (K.kept keeper).bare → IfErr result (λ r. r.why ≢ Place → MayRefuse None r.why) }

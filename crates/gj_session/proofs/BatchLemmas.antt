@@ -18,6 +18,7 @@ use Rattle.gj_once.specs.declared.noted_index.Noted.TheVariants.{New, Repeated}
 use Rattle.gj_once.specs.declared.noted_index.OnceError.{OnceError}
 use Rattle.gj_once.specs.declared.noted_index.OnceError.TheVariants as refused
 use Rattle.gj_once.specs.declared.verdict.LastBatch.{LastBatch}
+use Rattle.gj_once.specs.declared.verdict.Verdict.{Verdict}
 use Rattle.gj_once.specs.declared.verdict.Verdict.TheVariants.{Fresh, Repeat, Old, Skipped}
 use Rattle.gj_reply.specs.declared.fixed.Fixed.TheVariants as fixed
 use Rattle.gj_reply.specs.declared.reply.Reply.TheVariants as replies
@@ -25,7 +26,7 @@ use Rattle.gj_session.specs.Batches.{SaysOfBatch}
 use Rattle.gj_session.specs.IndexReplies.{said_to, said_to_noted}
 use Rattle.gj_session.specs.IndexRuns.{IndexAt, IndexAnswers}
 use Rattle.gj_session.specs.Marks.{mark_at}
-use Rattle.gj_session.specs.NotedBatches.{places_after}
+use Rattle.gj_session.specs.NotedBatches.{AnswersStale, places_after}
 use Rattle.gj_session.proofs.NotedLemmas.{by_verdict, fresh_verdict, repeat_verdict, old_verdict, skipped_verdict, repeat_receipt}
 use Rattle.gj_session.proofs.RunLemmas.{length_extend, entered_more}
 
@@ -258,3 +259,10 @@ notes_answer a b batch (Err (refused.Skipped last)) x =
       stores = (let count = x.count in omega arith);
       steady = λ sure. (refl, (x.steady sure).1);
     }
+
+-- what is answered to a number that is not the next one
+pub stale_of : (v : Verdict) (result : Result Noted OnceError) → Answers v result → AnswersStale v (said_to_noted result)
+stale_of Fresh result is = tt
+stale_of (Repeat receipt) result is = ap said_to_noted is
+stale_of (Old last) result is = ap said_to_noted is
+stale_of (Skipped last) result is = ap said_to_noted is

@@ -14,6 +14,7 @@ use Rattle.gj_once.specs.declared.noted_index.Noted.TheVariants.{New, Repeated}
 use Rattle.gj_once.specs.declared.verdict.LastBatch.{LastBatch}
 use Rattle.gj_once.specs.declared.verdict.Verdict.{Verdict}
 use Rattle.gj_once.specs.declared.verdict.Verdict.TheVariants as verdict
+use Rattle.gj_publish.specs.Answers.{IsUnmet}
 use Rattle.gj_publish.specs.NotedAnswers.{Answers, IfNew, IfRepeated, IsPosted, OnNew, after_noted, noted_by}
 use Rattle.gj_publish.specs.Seats.{SeatView, Numbers, after_verdict, raised}
 use Rattle.gj_publish.specs.Writers.{by_seat}
@@ -27,8 +28,8 @@ use Rattle.gj_reply.specs.declared.fixed.Fixed.TheVariants as fixed
 use Rattle.gj_reply.specs.declared.reply.Reply.{Reply}
 use Rattle.gj_reply.specs.declared.reply.Reply.TheVariants as replies
 use Rattle.gj_session.specs.IndexRuns.{one_if}
-use Rattle.gj_session.specs.NotedBatches.{AnswersJudged, AnswersWhere, Lacks, noted_after, places_after}
-use Rattle.gj_session.specs.SeatReplies.{entered_items, outcome_of, outcome_of_noted}
+use Rattle.gj_session.specs.NotedBatches.{AnswersJudged, AnswersKnown, AnswersWhere, Lacks, noted_after, places_after}
+use Rattle.gj_session.specs.SeatReplies.{entered_items, outcome_of, outcome_of_noted, outcome_of_refusal}
 use Rattle.gj_session.specs.SeatRuns.{mark_of, is_batch_look, is_noted_look, is_fresh, CountedOne, SameSeat, SeatAnswers}
 use Rattle.gj_session.specs.declared.outcome.Outcome.{Outcome}
 use Rattle.gj_session.specs.declared.outcome.Outcome.TheVariants.{Says, Stands}
@@ -288,3 +289,23 @@ notes_by noted S T p q h new v a b batch (Err (refused.Post (posts.Apart seen sh
 notes_by noted S T p q h new v a b batch (Err (refused.RepeatUnseen r)) x = refl
 notes_by noted S T p q h new v a b batch (Err (refused.Old last)) x = refl
 notes_by noted S T p q h new v a b batch (Err (refused.Skipped last)) x = refl
+
+-- a refusal that comes after a batch had entered does not call it unaccepted
+known_unmet : (error : PostError) → IsUnmet error → outcome_of_refusal error ≡ Stands fixed.NotAccepted → ⊥
+known_unmet posts.Memory is e = is
+known_unmet (posts.KeptUnseen receipt) is e = is
+known_unmet posts.Store is e = is
+known_unmet (posts.Full n) is e = is
+known_unmet (posts.NoLook why) is e = cc
+known_unmet (posts.Apart seen shown posted counted) is e = cc
+
+pub known_of : (v : Verdict) (result : Result Noted NotedError) → Answers v result → AnswersKnown v (outcome_of_noted result)
+known_of verdict.Fresh result is = tt
+known_of (verdict.Repeat receipt) (Ok (New places)) is = absurd is
+known_of (verdict.Repeat receipt) (Ok (Repeated places)) is = λ e. cc
+known_of (verdict.Repeat receipt) (Err (refused.Post error)) is = known_unmet error is
+known_of (verdict.Repeat receipt) (Err (refused.RepeatUnseen places)) is = λ e. cc
+known_of (verdict.Repeat receipt) (Err (refused.Old last)) is = absurd is
+known_of (verdict.Repeat receipt) (Err (refused.Skipped last)) is = absurd is
+known_of (verdict.Old last) result is = ap outcome_of_noted is
+known_of (verdict.Skipped last) result is = ap outcome_of_noted is

@@ -41,6 +41,20 @@ AnswersJudged alone seat a batch (verdict.Skipped last) outcome b = (outcome ≡
 abbrev pub Lacks : Bool → Mark → Outcome → Mark → Type 0
 Lacks alone a outcome b = ((outcome ≡ Stands fixed.Memory) ⊎ (outcome ≡ Stands fixed.NotAccepted)) × Moves alone a b
 
+-- what an index answers to a number that is not its producer's next: no memory is wanting for it
+abbrev pub AnswersStale : Verdict → Outcome → Type 0
+AnswersStale verdict.Fresh outcome = Unit {0}
+AnswersStale (verdict.Repeat receipt) outcome = outcome ≡ Says (replies.Repeated receipt.from receipt.to)
+AnswersStale (verdict.Old last) outcome = outcome ≡ Says (replies.Old last)
+AnswersStale (verdict.Skipped last) outcome = outcome ≡ Says (replies.Skipped last)
+
+-- the same of a seat: a batch that had entered is not called unaccepted
+abbrev pub AnswersKnown : Verdict → Outcome → Type 0
+AnswersKnown verdict.Fresh outcome = Unit {0}
+AnswersKnown (verdict.Repeat receipt) outcome = outcome ≡ Stands fixed.NotAccepted → ⊥
+AnswersKnown (verdict.Old last) outcome = outcome ≡ Says (replies.Old last)
+AnswersKnown (verdict.Skipped last) outcome = outcome ≡ Says (replies.Skipped last)
+
 -- what is answered where this is noted last
 abbrev pub AnswersWhere : List LastBatch → Bool → ℕ → Mark → NotedBatch → Outcome → Mark → Type 0
 AnswersWhere noted alone seat a batch outcome b =

@@ -2,8 +2,10 @@
 ghost use Rattle.std.specs.Prelude.{◌≡◌, ◌≤◌, List, length, Ok};
 ghost use Rattle.gj_base.specs.declared.ask.Ask.TheVariants as asks;
 ghost use Rattle.gj_once.specs.declared.verdict.LastBatch.{LastBatch};
+ghost use Rattle.gj_once.specs.Judging.{judged};
 ghost use Rattle.gj_session.specs.IndexReplies.{said_to, said_to_noted, said_to_refusal};
 ghost use Rattle.gj_session.specs.IndexRuns.{IndexAnswers, index_at};
+ghost use Rattle.gj_session.specs.NotedBatches.{AnswersStale};
 
 use crate::outcome::Outcome;
 use gj_base::{Index, IndexError, ItemList, NotedItems, Receipt};
@@ -78,8 +80,9 @@ pub(crate) fn accept_plain_on<I: NotedIndex>(index: &mut I, items: &ItemList) ->
 /// its producer, and else the reply to a batch that had entered, to one that comes before the last one, or to one after a
 /// missing one. It takes what memory the index takes.
 pub fn accept_noted_on<I: NotedIndex>(index: &mut I, asked: &NotedItems) -> Outcome
-    ensures { IndexAnswers (index_at (I.viewed index.old) (I.keeps index.old) (I.faults index.old) (I.steady index.old) (I.noted index.old))
+    ensures answers { IndexAnswers (index_at (I.viewed index.old) (I.keeps index.old) (I.faults index.old) (I.steady index.old) (I.noted index.old))
         (index_at (I.viewed index.new) (I.keeps index.new) (I.faults index.new) (I.steady index.new) (I.noted index.new)) (Ok (asks.Noted asked.now)) Fixed.NotAccepted result }
+    ensures stale { AnswersStale (judged (I.noted index.old) asked.now.producer asked.now.number) result }
 {
     outcome_to_noted(index.post_noted(asked))
 }

@@ -2,8 +2,9 @@
 ghost use Rattle.std.specs.Prelude.{◌≡◌, ◌≢◌, ◌+◌, ◌<◌, ◌≤◌, length, IfOk, OnErr, IsErrOf, Ok, false};
 ghost use Rattle.gj_base.specs.History.{Begins, entries_by, extend};
 ghost use Rattle.gj_base.specs.declared.ask.Ask.TheVariants as asks;
+ghost use Rattle.gj_once.specs.Judging.{judged};
 ghost use Rattle.gj_session.specs.Answers.{window_under};
-ghost use Rattle.gj_session.specs.NotedBatches.{AnswersWhere, noted_after};
+ghost use Rattle.gj_session.specs.NotedBatches.{AnswersKnown, AnswersWhere, noted_after};
 ghost use Rattle.gj_session.specs.Outcomes.{IsLack};
 ghost use Rattle.gj_session.specs.Reference.{reply_of};
 ghost use Rattle.gj_session.specs.SeatReplies.{after_answer, entered_items, outcome_of, outcome_of_noted, outcome_of_refusal};
@@ -181,6 +182,7 @@ pub fn accept_noted<J: Opening, C: Copies<Operation = Batch<J>>, K: Keeper + Dro
 
     // What the writer had noted says which answer it is, and what enters is noted.
     ensures judged { AnswersWhere writer.old.noted false seat.old.number (mark_of seat.old) asked result (mark_of seat.new) }
+    ensures known { AnswersKnown (judged writer.old.noted asked.producer asked.number) result }
     ensures noted { writer.new.noted ≡ noted_after writer.old.noted writer.old.accepted asked result }
     ensures history { writer.new.accepted ≡ extend writer.old.accepted (entries_by seat.old.number (entered_items asked.items result)) }
     ensures later { writer.old.faults ≤ writer.new.faults }

@@ -4,7 +4,8 @@ ghost use Rattle.std.specs.List.{All};
 ghost use Rattle.gj_base.specs.History.{Begins, entries_by, extend, length_of};
 ghost use Rattle.gj_once.specs.Judging.{nothing_noted};
 ghost use Rattle.gj_once.specs.PostLists.{IsCall, OnceOnly, entering, noted_after, noted_by};
-ghost use Rattle.gj_publish.specs.SeatCalls.{AreAnswers, IsAnswer, IsSeatCall, entered, entries_in, numbers_of, posts_of, told_of};
+ghost use Rattle.gj_publish.specs.NotedAnswers.{faults_noted};
+ghost use Rattle.gj_publish.specs.SeatCalls.{AreAnswers, IsAnswer, IsSeatCall, entered, entries_in, faults_answered, numbers_of, posts_of, told_of};
 
 use super::Writer;
 use crate::batch::Batch;
@@ -47,6 +48,7 @@ impl<J: Opening, C: Copies<Operation = Batch<J>>, K: Keeper + Drop> Writer<J, C,
         ensures exact { IfOk result (λ answers. AreAnswers self.old.noted (length_of self.old.accepted) calls.items answers.items) }
         ensures noted { IfOk result (λ answers. self.new.noted ≡ noted_after self.old.noted (posts_of calls.items answers.items)) }
         ensures accepted { IfOk result (λ answers. self.new.accepted ≡ extend self.old.accepted (entered (numbers_of seats.old) calls.items answers.items)) }
+        ensures count { IfOk result (λ answers. self.new.faults ≡ faults_answered self.old.faults answers.items) }
 
         // From an opening on, whichever seat posts it, each numbered batch is taken once.
         ensures once { self.old.noted ≡ nothing_noted → IfOk result (λ answers. OnceOnly (posts_of calls.items answers.items) self.new.accepted) }
@@ -75,6 +77,7 @@ impl<J: Opening, C: Copies<Operation = Batch<J>>, K: Keeper + Drop> Writer<J, C,
         ensures exact { IsAnswer self.old.noted (length_of self.old.accepted) made.call result }
         ensures noted { self.new.noted ≡ noted_by self.old.noted made.call (told_of result) }
         ensures accepted { self.new.accepted ≡ extend self.old.accepted (entries_in (numbers_of seats.old) made result) }
+        ensures count { self.new.faults ≡ faults_noted self.old.faults result }
         ensures fronts { (i : ℕ) (d : _) → i < length seats.old → Begins (slice_index_or seats.old i d).front (slice_index_or seats.new i d).front }
         ensures others { (numbers_of seats.new ≡ numbers_of seats.old) × (self.new.start ≡ self.old.start) }
         ensures published { Begins self.old.published self.new.published }
@@ -85,11 +88,13 @@ impl<J: Opening, C: Copies<Operation = Batch<J>>, K: Keeper + Drop> Writer<J, C,
     }
 
     // Makes a call by this seat.
+    #[tactic(auto, using(crate::proofs::CallsLemmas::full_of, crate::proofs::CallsLemmas::full_where))]
     fn post_call<W: Grow + Drop>(&mut self, seat: &mut Seat<W, J>, call: Call) -> Answer
         requires { IsCall call }
         ensures exact { IsAnswer self.old.noted (length_of self.old.accepted) call result }
         ensures noted { self.new.noted ≡ noted_by self.old.noted call (told_of result) }
         ensures accepted { self.new.accepted ≡ extend self.old.accepted (entries_by seat.old.number (entering call (told_of result))) }
+        ensures count { self.new.faults ≡ faults_noted self.old.faults result }
         ensures front { Begins seat.old.front seat.new.front }
         ensures others { (seat.new.number ≡ seat.old.number) × (self.new.start ≡ self.old.start) }
         ensures published { Begins self.old.published self.new.published }

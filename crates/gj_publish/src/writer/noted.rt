@@ -8,7 +8,7 @@ ghost use Rattle.gj_once.specs.Judging.{judged};
 ghost use Rattle.gj_publish.specs.declared.refusal.NoLook.TheVariants.{Short};
 ghost use Rattle.gj_publish.specs.declared.refusal.NotedError.TheVariants.{Post, RepeatUnseen, Old, Skipped};
 ghost use Rattle.gj_publish.specs.declared.refusal.PostError.TheVariants.{KeptUnseen, Store, Full, NoLook, Apart};
-ghost use Rattle.gj_publish.specs.NotedAnswers.{Answers, IfEntered, IfNew, IfRepeated, IsRepeat, OnNew, OnNotedMet, after_answer, after_noted, noted_by, noted_posted};
+ghost use Rattle.gj_publish.specs.NotedAnswers.{Answers, IfEntered, IfNew, IfRepeated, IsRepeat, OnNew, OnNotedMet, after_answer, after_noted, faults_noted, noted_by, noted_posted};
 ghost use Rattle.gj_publish.specs.Writers.{all_shown, by_seat};
 
 use super::Writer;
@@ -57,6 +57,7 @@ impl<J: Opening, C: Copies<Operation = Batch<J>>, K: Keeper + Drop> Writer<J, C,
         ensures no_look { IfErr result (λ e. (why : _) → e ≡ Post (NoLook why) → (self.new ≡ self.old) × (seat.new.front ≡ seat.old.front)) }
         ensures short { IfErr result (λ e. (seen shown : ℕ) → e ≡ Post (NoLook (Short seen shown)) → ((seen ≡ length_of seat.old.front) ⊎ (seen ≡ length_of self.old.published)) × (shown < seen) × ((x : W) × (end_of (W.shown x) ≡ shown))) }
         ensures apart { IfErr result (λ why. (seen shown posted counted : _) → why ≡ Post (Apart seen shown posted counted) → (self.new ≡ self.old) × (seen ≡ length_of seat.new.front) × (shown ≡ length_of self.old.published) × (posted ≡ seat.old.posted) × (counted ≡ by_seat seat.old.number self.old.accepted) × Begins self.old.published seat.new.front × ((shown < seen) ⊎ (posted ≢ counted))) }
+        ensures count { self.new.faults ≡ faults_noted self.old.faults result }
         ensures cause { IsErrOf result (Post Store) → Rose self.old.faults self.new.faults }
         ensures steady { IsTrue self.old.steady → (IsErrOf result (Post Store) → ⊥) × IsTrue self.new.steady }
 

@@ -1,11 +1,11 @@
 //! Accepting a batch: it is kept, then it enters the history, and then it is shown.
 ghost use Rattle.std.specs.Prelude.{◌≡◌, ◌≢◌, ◌⊎◌, ◌+◌, ◌<◌, ◌≤◌, ◌^◌, true, ℕ, length, IfOk, IfErr, OnOk, OnErr, IsErrOf, IsTrue};
 ghost use Rattle.gj_base.specs.declared.index.IndexError.TheVariants.{Store as StoreFault};
-ghost use Rattle.gj_base.specs.Causes.{Rose};
+ghost use Rattle.gj_base.specs.Causes.{Rose, faults_posted};
 ghost use Rattle.gj_base.specs.History.{Begins, end_of, entries_by, extend, length_of};
 ghost use Rattle.gj_publish.specs.declared.refusal.NoLook.TheVariants.{Short};
 ghost use Rattle.gj_publish.specs.declared.refusal.PostError.TheVariants.{KeptUnseen, Store, Full, NoLook, Apart};
-ghost use Rattle.gj_publish.specs.Answers.{after_post, OnMet};
+ghost use Rattle.gj_publish.specs.Answers.{after_post, faults_after_post, OnMet};
 ghost use Rattle.gj_publish.specs.Writers.{by_seat};
 
 use super::Writer;
@@ -43,6 +43,7 @@ impl<J: Opening, C: Copies<Operation = Batch<J>>, K: Keeper + Drop> Writer<J, C,
         ensures no_look { IfErr result (λ e. (why : _) → e ≡ NoLook why → (self.new ≡ self.old) × (seat.new.front ≡ seat.old.front)) }
         ensures short { IfErr result (λ e. (seen shown : ℕ) → e ≡ NoLook (Short seen shown) → ((seen ≡ length_of seat.old.front) ⊎ (seen ≡ length_of self.old.published)) × (shown < seen) × ((x : W) × (end_of (W.shown x) ≡ shown))) }
         ensures apart { IfErr result (λ why. (seen shown posted counted : _) → why ≡ Apart seen shown posted counted → (self.new ≡ self.old) × (seen ≡ length_of seat.new.front) × (shown ≡ length_of self.old.published) × (posted ≡ seat.old.posted) × (counted ≡ by_seat seat.old.number self.old.accepted) × Begins self.old.published seat.new.front × ((shown < seen) ⊎ (posted ≢ counted))) }
+        ensures count { self.new.faults ≡ faults_after_post self.old.faults result }
         ensures cause { IsErrOf result Store → Rose self.old.faults self.new.faults }
         ensures steady { IsTrue self.old.steady → (IsErrOf result Store → ⊥) × IsTrue self.new.steady }
 
@@ -104,6 +105,7 @@ impl<J: Opening, C: Copies<Operation = Batch<J>>, K: Keeper + Drop> Writer<J, C,
         ensures posted { OnOk result (seat.new ≡ record { number = seat.old.number; front = seat.old.front; posted = seat.old.posted + length items; numbers = seat.old.numbers }) }
         ensures same { (self.new.published ≡ self.old.published) × (self.new.noted ≡ self.old.noted) × (self.new.start ≡ self.old.start) }
         ensures err { OnErr result ((self.new.accepted ≡ self.old.accepted) × (seat.new ≡ seat.old)) }
+        ensures count { self.new.faults ≡ faults_posted self.old.faults result }
         ensures cause { IsErrOf result StoreFault → Rose self.old.faults self.new.faults }
         ensures steady { IsTrue self.old.steady → (IsErrOf result StoreFault → ⊥) × IsTrue self.new.steady }
         ensures later { self.old.faults ≤ self.new.faults }

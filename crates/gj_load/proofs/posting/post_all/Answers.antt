@@ -1,4 +1,5 @@
-use Rattle.std.proofs.Common.{◌≡◌, ◌∙◌, ◌≤◌, ◌+◌, ap, sym, subst, arith, rules, List}
+use Rattle.std.proofs.Common.{◌≡◌, ◌∙◌, ◌≤◌, ◌+◌, ap, sym, subst, arith, rules, ℕ, List, Err}
+use Rattle.gj_base.specs.Causes.{faults_posted}
 use Rattle.gj_base.specs.declared.item.Item.{Item}
 use Rattle.gj_base.specs.declared.history.History.{History}
 use Rattle.gj_base.specs.History.{end_of, entries_by, extend}
@@ -31,7 +32,7 @@ loop-done-preserved g c =
       posted = omega arith;
       few = omega arith;
       conf = c.post_batch.ensures.conf ∙ inv.conf;
-      faults = c.in-Ok.ensures.same ∙ inv.faults;
+      faults = c.in-Ok.ensures.count ∙ inv.faults;
     }
 
 pub returns-in-Err-clause-full : goal.returns-in-Err-clause-full
@@ -47,3 +48,6 @@ pub returns-in-Err-clause-err : goal.returns-in-Err-clause-err
 returns-in-Err-clause-err g c =
     let inv = c.loop-done.invariant in
     (c.loop-done.done, omega arith, c.in-Err.ensures.err (history_of (items_from c.args.number c.loop-done.done)) inv.keeps)
+
+pub returns-in-Err-clause-count : goal.returns-in-Err-clause-count
+returns-in-Err-clause-count g c = c.in-Err.ensures.count ∙ ap (λ n. faults_posted {T = ℕ} n (Err c.in-Err.why)) c.loop-done.invariant.faults

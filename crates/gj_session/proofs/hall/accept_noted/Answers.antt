@@ -1,7 +1,7 @@
 use Rattle.std.proofs.Common.{◌≡◌, ◌∙◌, ap}
 use Rattle.gj_once.specs.Judging.{judged}
 use Rattle.gj_publish.specs.Writers.{WriterView, all_shown}
-use Rattle.gj_session.proofs.NotedSeatLemmas.{NotedSays, noted_answers, noted_enters, notes_by, seat_noted}
+use Rattle.gj_session.proofs.NotedSeatLemmas.{NotedSays, known_of, noted_answers, noted_enters, notes_by, seat_noted}
 use Rattle.gj_session.proofs.hall.accept_noted.Goals as goal
 
 pub returns : goal.returns
@@ -32,6 +32,7 @@ returns g c =
     rw (c.outcome_to_noted.ensures, c.compact_noted.ensures) (record {
       answers = seat_noted _ old.noted _ _ c.args.asked _ outcome;
       judged = outcome.judged;
+      known = known_of v c.post_noted-posted.result x.exact;
       noted = x.noted ∙ notes_by old.noted _ _ _ _ _ _ v _ _ c.args.asked c.post_noted-posted.result says;
       history = noted_enters _ _ _ _ _ _ v _ _ c.args.asked c.post_noted-posted.result says;
       later = x.later;

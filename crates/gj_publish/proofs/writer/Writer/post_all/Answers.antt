@@ -6,8 +6,9 @@ use Rattle.gj_base.specs.History.{extend}
 use Rattle.gj_once.specs.declared.noted_index.Noted.{Noted}
 use Rattle.gj_publish.specs.declared.refusal.NotedError.{NotedError}
 use Rattle.gj_publish.specs.declared.writer.lists.SeatCall.{SeatCall}
-use Rattle.gj_publish.specs.SeatCalls.{IsSeatCall, entries_in, numbers_of}
-use Rattle.gj_publish.proofs.CallsLemmas.{Called, called_more, called_none, called_once}
+use Rattle.gj_publish.specs.NotedAnswers.{faults_noted}
+use Rattle.gj_publish.specs.SeatCalls.{IsSeatCall, entries_in, faults_answered, numbers_of}
+use Rattle.gj_publish.proofs.CallsLemmas.{Called, called_more, called_none, called_once, faults_more}
 use Rattle.gj_publish.proofs.Histories.{begins_self, begins_trans}
 use Rattle.gj_publish.proofs.writer.Writer.post_all.Goals as goal
 
@@ -22,6 +23,9 @@ loop-made-init g c = record {
   published = begins_self _;
   start = refl;
   later = omega arith;
+  count =
+      let F : List (Result Noted NotedError) → Type 0 = λ answers. c.args.self.now.faults ≡ faults_answered c.args.self.now.faults answers in
+      subst F (sym c.in-Ok.ensures.items) refl;
 }
 
 pub put-requires : goal.put-requires
@@ -54,6 +58,10 @@ loop-made-preserved g c =
       published = begins_trans _ _ _ done.published is.published;
       start = is.others.1 ∙ done.start;
       later = omega (arith, done.later, is.later);
+      count =
+          is.count ∙ (ap (λ n. faults_noted n c.post_one-answer.result) done.count
+          ∙ (sym (faults_more c.args.self.now.faults c.loop-made.answers.items c.post_one-answer.result)
+          ∙ ap (λ answers. faults_answered c.args.self.now.faults answers) (sym c.put.ensures.items)));
     }
 
 pub returns-clause-once : goal.returns-clause-once

@@ -1,6 +1,6 @@
 use Rattle.std.proofs.Common.{◌≡◌, ◌<◌, ◌≤◌, ℕ, length, slice_index_or, vec_capacity}
 use Rattle.gj_base.specs.History.{Begins}
-use Rattle.gj_publish.specs.SeatCalls.{numbers_of}
+use Rattle.gj_publish.specs.SeatCalls.{faults_answered, numbers_of}
 use Rattle.gj_publish.specs.Seats.{SeatView}
 use Rattle.gj_publish.proofs.CallsLemmas.{Called}
 use Rattle.gj_publish.proofs.writer.Writer.post_all.Given as goal
@@ -14,4 +14,5 @@ invariant-loop-made g l = record {
   published : Begins l.fn.self.published l.self.published;
   start : l.self.start ≡ l.fn.self.start;
   later : l.fn.self.faults ≤ l.self.faults;
+  count : l.self.faults ≡ faults_answered l.fn.self.faults l.answers.items;
 }
