@@ -71,13 +71,13 @@ serves_lack conf None plan a d o = record { service = λ is. absurd is; judged =
 serves_lack conf (Some path) plan a d o = record { service = λ is. absurd is; judged = λ yes. tt; differs = λ x y e. cc; bad = λ x e. cc; kept = λ no yes. inl refl }
 
 -- memory was wanting for the words
-pub does_lack : {heard : Configuration → History → Type 0} (asked : Option Serving) (a : StoresAt) (d : DoorAt) (o : Outgoing) → DoesServe asked a a d d heard o o Memory
-does_lack None a d o = inr refl
-does_lack (Some s) a d o = (ends.Refused why.Memory, refl, serves_lack s.conf s.store _ a d o)
+pub does_lack : (heard : Configuration → History → Type 0) (asked : Option Serving) (a : StoresAt) (d : DoorAt) (o : Outgoing) → DoesServe asked a a d d heard o o Memory
+does_lack heard None a d o = inr refl
+does_lack heard (Some s) a d o = (ends.Refused why.Memory, refl, serves_lack s.conf s.store _ a d o)
 
-pub does_usage : {heard : Configuration → History → Type 0} (asked : Option Serving) (a : StoresAt) (d : DoorAt) (o : Outgoing) → asked ≡ None → DoesServe asked a a d d heard o o Usage
-does_usage None a d o e = inl refl
-does_usage (Some s) a d o e = cc
+pub does_usage : (heard : Configuration → History → Type 0) (asked : Option Serving) (a : StoresAt) (d : DoorAt) (o : Outgoing) → asked ≡ None → DoesServe asked a a d d heard o o Usage
+does_usage heard None a d o e = inl refl
+does_usage heard (Some s) a d o e = cc
 
 -- what a status tells of the end
 pub end_of_write : (end : ServiceEnd) → status_of_service end ≡ WriteFault → end ≡ ends.WriteFault
