@@ -58,11 +58,12 @@ Writes DoorFault port sessions length old new =
 Writes Memory port sessions length old new = (sessions ≡ 0) × (new ≡ old)
 Writes (Refused error) port sessions length old new = ⊥
 
--- what was written, and what became of the door
+-- what was written, and what became of the door: no more links were handed out than connections are stated
 pub record Told (plan : Plan) (length : ℕ) (a b : DoorAt) (old new : Outgoing) (end : ServiceEnd) : Type 0 where
   pub wrote : Writes end plan.port b.handed length old new
   pub all_back : b.back ≡ b.handed
   pub few : b.handed < 2 ^ 64
+  pub within : b.handed ≤ plan.sessions
   pub done : end ≡ Done → (b.handed ≡ plan.sessions) ⊎ (0 < b.nones)
   pub fault : end ≡ DoorFault → Rose a.faults b.faults
 

@@ -92,6 +92,7 @@ pub fn serve_desks<
 
     // Each link that was taken was served and went back.
     ensures handed { (D.handed result.door ≡ result.sessions) × (D.back result.door ≡ result.sessions) }
+    ensures few { result.sessions ≤ T.stated }
 
     // Why no further link was taken.
     ensures spent { result.end ≡ Spent → result.sessions ≡ T.stated }

@@ -12,6 +12,7 @@ returns-in-Err-send_ready-clause-told g c =
       wrote = beginning_cut _ _ (ready_line c.args.plan.port) (last_line _ _) c.in-Err-send_ready.ensures;
       all_back = back ∙ sym handed;
       few = omega (arith, handed);
+      within = omega (arith, handed);
       done = λ e. cc;
       fault = λ e. cc;
     }
