@@ -1,5 +1,5 @@
 //! Numbers of a row. SQLite's are signed.
-ghost use Rattle.std.specs.Prelude.{◌≡◌};
+ghost use Rattle.std.specs.Prelude.{◌≡◌, ◌^◌, ◌≤◌, pos, IfOk, IfErr};
 ghost use Rattle.gj_keep_sql.specs.Numbers.{number_of};
 
 use sqlite::{Error, Row};
@@ -27,7 +27,10 @@ pub fn unsigned_at(row: &Row, column: usize) -> Result<i64, Error> {
 }
 
 /// The number as SQLite's. One that has none is refused, as the parameter at this place.
-pub fn signed(number: u64, place: usize) -> Result<i64, Error> {
+pub fn signed(number: u64, place: usize) -> Result<i64, Error>
+    ensures ok { IfOk result (λ n. n ≡ pos number) }
+    ensures err { IfErr result (λ why. (2 ^ 63 ≤ number) × (why ≡ Error.IntegralValueOutOfRange place)) }
+{
     match i64::try_from(number) {
         Ok(number) => Ok(number),
         Err(_) => Err(Error::IntegralValueOutOfRange(place)),

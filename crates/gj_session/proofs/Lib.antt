@@ -14,3 +14,4 @@ pub mod RecentLemmas
 pub mod RunLemmas
 pub mod SeatLemmas
 pub mod SeatRunLemmas
+pub mod ToldLemmas

@@ -1,8 +1,9 @@
 //! A seat beside others, as what answers the messages of a session.
-ghost use Rattle.std.specs.Prelude.{◌≡◌, ◌≢◌, ◌+◌, ◌<◌, ◌≤◌, length, IfOk, OnErr, IsErrOf, Ok, false};
-ghost use Rattle.gj_base.specs.History.{Begins, entries_by, extend};
+ghost use Rattle.std.specs.Prelude.{◌≡◌, ◌≢◌, ◌+◌, ◌<◌, ◌≤◌, ℕ, length, IfOk, OnErr, IsErrOf, Ok, false};
+ghost use Rattle.gj_base.specs.History.{Begins, entries_by, extend, length_of};
 ghost use Rattle.gj_base.specs.declared.ask.Ask.TheVariants as asks;
 ghost use Rattle.gj_once.specs.Judging.{judged};
+ghost use Rattle.gj_publish.specs.Writers.{by_seat};
 ghost use Rattle.gj_session.specs.Answers.{window_under};
 ghost use Rattle.gj_session.specs.NotedBatches.{AnswersKnown, AnswersWhere, noted_after};
 ghost use Rattle.gj_session.specs.Outcomes.{IsLack};
@@ -162,6 +163,11 @@ pub fn accept<J: Opening, C: Copies<Operation = Batch<J>>, K: Keeper + Drop, W: 
     ensures history { writer.new.accepted ≡ extend writer.old.accepted (entries_by seat.old.number (entered_items items result)) }
     ensures noted { writer.new.noted ≡ writer.old.noted }
     ensures later { writer.old.faults ≤ writer.new.faults }
+
+    // What is told of the writer is the writer's.
+    ensures full { (n : ℕ) → result ≡ Outcome.Says (Reply.Full n) → n ≡ length_of writer.old.accepted }
+    ensures apart { (seen shown posted counted : ℕ) → result ≡ Outcome.Says (Reply.Apart seen shown posted counted)
+        → (shown ≡ length_of writer.old.published) × (counted ≡ by_seat seat.old.number writer.old.accepted) }
 {
     // Its contract bounds the length with which a full history is told.
     let _length = writer.length();
@@ -186,6 +192,11 @@ pub fn accept_noted<J: Opening, C: Copies<Operation = Batch<J>>, K: Keeper + Dro
     ensures noted { writer.new.noted ≡ noted_after writer.old.noted writer.old.accepted asked result }
     ensures history { writer.new.accepted ≡ extend writer.old.accepted (entries_by seat.old.number (entered_items asked.items result)) }
     ensures later { writer.old.faults ≤ writer.new.faults }
+
+    // What is told of the writer is the writer's.
+    ensures full { (n : ℕ) → result ≡ Outcome.Says (Reply.Full n) → n ≡ length_of writer.old.accepted }
+    ensures apart { (seen shown posted counted : ℕ) → result ≡ Outcome.Says (Reply.Apart seen shown posted counted)
+        → (shown ≡ length_of writer.old.published) × (counted ≡ by_seat seat.old.number writer.old.accepted) }
 {
     // Its contract bounds the length with which a full history is told.
     let _length = writer.length();

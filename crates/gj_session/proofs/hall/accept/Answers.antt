@@ -1,5 +1,6 @@
-use Rattle.std.proofs.Common.{◌≡◌}
+use Rattle.std.proofs.Common.{◌≡◌, refl}
 use Rattle.gj_session.proofs.SeatLemmas.{PostSays, post_answers, post_enters}
+use Rattle.gj_session.proofs.ToldLemmas.{told_apart, told_full}
 use Rattle.gj_session.proofs.hall.accept.Goals as goal
 
 pub returns : goal.returns
@@ -26,4 +27,6 @@ returns g c =
       history = post_enters _ _ _ _ _ _ _ c.args.items c.post-posted.result says;
       noted = x.others.1;
       later = x.later;
+      full = told_full _ _ c.post-posted.result x.full (λ n p. (p n refl).0);
+      apart = told_apart _ _ _ c.post-posted.result x.apart (λ seen shown posted counted p. (let is = p seen shown posted counted refl in (is.2, is.4)));
     })

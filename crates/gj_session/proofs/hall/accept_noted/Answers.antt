@@ -1,7 +1,8 @@
-use Rattle.std.proofs.Common.{◌≡◌, ◌∙◌, ap}
+use Rattle.std.proofs.Common.{◌≡◌, ◌∙◌, ap, refl}
 use Rattle.gj_once.specs.Judging.{judged}
 use Rattle.gj_publish.specs.Writers.{WriterView, all_shown}
 use Rattle.gj_session.proofs.NotedSeatLemmas.{NotedSays, known_of, noted_answers, noted_enters, notes_by, seat_noted}
+use Rattle.gj_session.proofs.ToldLemmas.{told_apart_noted, told_full_noted}
 use Rattle.gj_session.proofs.hall.accept_noted.Goals as goal
 
 pub returns : goal.returns
@@ -36,4 +37,6 @@ returns g c =
       noted = x.noted ∙ notes_by old.noted _ _ _ _ _ _ v _ _ c.args.asked c.post_noted-posted.result says;
       history = noted_enters _ _ _ _ _ _ v _ _ c.args.asked c.post_noted-posted.result says;
       later = x.later;
+      full = told_full_noted _ _ c.post_noted-posted.result x.full (λ n p. (p n refl).0);
+      apart = told_apart_noted _ _ _ c.post_noted-posted.result x.apart (λ seen shown posted counted p. (let is = p seen shown posted counted refl in (is.2, is.4)));
     })
