@@ -45,9 +45,10 @@ pub are_served_more : {L : Type 0} {tells : L → Bool} {stream : L → Reading}
 are_served_more {L = L} {tells = tells} {stream = stream} {read_faults = read_faults} {reads = reads} {written = written} {write_faults = write_faults} {conf = conf} a s b told told' back back' given given' done later seen still counted longer all one = λ yes'.
     let yes = still yes' in
     let here = are_served_later tells stream read_faults reads written write_faults conf a b told back given later all yes in
-    let P : Done L → Type 0 = λ x. ∥ HasServed tells stream read_faults reads written write_faults conf b x ∥₁ in
-    (omega (arith, here.0, counted, ap length (longer yes), length-append given (done ∷ [])),
-      subst (All P) (sym (longer yes)) (All-push P given done here.1 ∣ served_later tells stream read_faults reads written write_faults conf s b done seen one ∣₁))
+    let P : Done L → Type 0 = λ x. ∥ HasServed tells stream read_faults reads written write_faults conf b x ∥₁ in (
+      omega (arith, here.0, counted, ap length (longer yes), length-append given (done ∷ [])),
+      subst (All P) (sym (longer yes)) (All-push P given done here.1 ∣ served_later tells stream read_faults reads written write_faults conf s b done seen one ∣₁),
+    )
 
 -- none came back yet
 pub none_served : {L : Type 0} (tells : L → Bool) (stream : L → Reading) (read_faults reads : L → ℕ) (written : L → List ℕ) (write_faults : L → ℕ) (conf : Configuration) (h : History) (told : Type 0) (back : ℕ) (given : List (Done L))
@@ -59,11 +60,11 @@ none_served tells stream read_faults reads written write_faults conf h told back
 pub has_served : {L : Type 0} (tells : L → Bool) (stream : L → Reading) (read_faults reads : L → ℕ) (written : L → List ℕ) (write_faults sure : L → ℕ) (conf : Configuration) (before after : SeatView) (link : L) (done : Done L)
     → IsFresh (IsTrue (tells link)) (stream link) (written link) → tells done.link ≡ tells link
     → Replayed (SeatRan conf before after)
-      (incoming (tells link) (stream link) (read_faults link) (reads link))
-      (incoming (tells done.link) (stream done.link) (read_faults done.link) (reads done.link))
-      (outgoing (tells link) (written link) (write_faults link) (sure link))
-      (outgoing (tells done.link) (written done.link) (write_faults done.link) (sure link))
-      1099511627776 done.end
+    (incoming (tells link) (stream link) (read_faults link) (reads link))
+    (incoming (tells done.link) (stream done.link) (read_faults done.link) (reads done.link))
+    (outgoing (tells link) (written link) (write_faults link) (sure link))
+    (outgoing (tells done.link) (written done.link) (write_faults done.link) (sure link))
+    1099511627776 done.end
     → after.posted ≡ before.posted + done.entered
     → HasServed tells stream read_faults reads written write_faults conf after.front done
 has_served tells stream read_faults reads written write_faults sure conf before after link done fresh told ran entered = record {

@@ -28,11 +28,11 @@ pub record HasServed {L : Type 0} (tells : L → Bool) (stream : L → Reading) 
   pub before : SeatView
   pub after : SeatView
   pub ran : Replayed (SeatRan conf before after)
-    (incoming (tells done.link) handed.stream handed.read_faults handed.reads)
-    (incoming (tells done.link) (stream done.link) (read_faults done.link) (reads done.link))
-    (outgoing (tells done.link) handed.written handed.write_faults handed.sure)
-    (outgoing (tells done.link) (written done.link) (write_faults done.link) handed.sure)
-    1099511627776 done.end
+      (incoming (tells done.link) handed.stream handed.read_faults handed.reads)
+      (incoming (tells done.link) (stream done.link) (read_faults done.link) (reads done.link))
+      (outgoing (tells done.link) handed.written handed.write_faults handed.sure)
+      (outgoing (tells done.link) (written done.link) (write_faults done.link) handed.sure)
+      1099511627776 done.end
   pub entered : after.posted ≡ before.posted + done.entered
   pub begins : Begins after.front history
 

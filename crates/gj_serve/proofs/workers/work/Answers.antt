@@ -10,9 +10,9 @@ give-requires-clause-served g c κs within =
     let L = g.D.Link.Link in
     let done = c.serve_session-done in
     let served = has_served L.tells L.stream L.read_faults L.reads L.written L.write_faults L.sure g.J.Opening.conf
-      c.loop.seat done.new.seat c.in-Link.link done.result c.in-Link.ensures.1 done.ensures.told done.ensures.run done.ensures.entered in
+    c.loop.seat done.new.seat c.in-Link.link done.result c.in-Link.ensures.1 done.ensures.told done.ensures.run done.ensures.entered in
     subst (λ (h : History). HasServed L.tells L.stream L.read_faults L.reads L.written L.write_faults g.J.Opening.conf h done.result)
-      (sym (c.again.ensures ∙ c.front.ensures)) served
+    (sym (c.again.ensures ∙ c.front.ensures)) served
 
 pub loop-preserved : goal.loop-preserved
 loop-preserved g c = record {
