@@ -1,21 +1,20 @@
 -- The lines of a service, put together.
-use Rattle.std.proofs.Common.{◌≡◌, ◌⊎◌, inl, inr, true, false, Bool, ℕ, ◌+◌, ◌<◌, ◌≤◌, ◌∙◌, IsTrue, List, ◌++◌, length, take, refl, sym, ap, subst, arith, append_assoc, length-append}
+use Rattle.std.proofs.Common.{◌≡◌, ◌⊎◌, inl, inr, true, false, Bool, ℕ, ◌+◌, ◌∙◌, IsTrue, List, ◌++◌, length, take, refl, sym, ap, subst, arith, append_assoc, length-append}
 use Rattle.std.proofs.lemmas.List.{take-append-le}
 use Rattle.std.proofs.Math.Seq.{take-append-add}
 use Rattle.gj_base.specs.Streams.{AppendsPart, Outgoing, Wrote}
 use Rattle.gj_base.proofs.StreamLemmas.{wrote_then}
 use Rattle.gj_serve.specs.declared.ends.DoorEnd.{DoorEnd}
 use Rattle.gj_serve.specs.declared.ends.DoorEnd.TheVariants.{Spent, Closed, Fault}
-use Rattle.gj_service.specs.Lines.{WroteBeginning, both_lines, last_line, ready_line}
-use Rattle.std.specs.Prelude.{Option, Some, None, IfSome}
+use Rattle.gj_service.specs.Lines.{WroteBeginning, last_line, ready_line}
+use Rattle.std.specs.Prelude.{Option, None}
 use Rattle.gj_base.specs.declared.history.History.{History}
 use Rattle.gj_base.specs.Configuration.{Configuration}
-use Rattle.gj_base.specs.History.{Begins, length_of}
 use Rattle.gj_base.specs.Kept.{Kept}
 use Rattle.gj_keep.specs.Openings.{IsLeft, IsPrepared, MayRefuse}
 use Rattle.gj_keep.specs.declared.opening.OpenError.{OpenError}
 use Rattle.gj_keep.specs.declared.opening.OpenError.TheVariants as why
-use Rattle.gj_service.specs.Services.{CutLast, DoorAt, IsOpened, IsUnserved, Judges, Service, Told, Writes, end_of}
+use Rattle.gj_service.specs.Services.{DoorAt, IsOpened, IsUnserved, Judges, Service, Writes, end_of}
 use Rattle.gj_service.specs.declared.end.ServiceEnd.{ServiceEnd}
 use Rattle.gj_service.specs.declared.end.ServiceEnd.TheVariants as services
 use Rattle.gj_service.specs.declared.plan.Plan.{Plan}

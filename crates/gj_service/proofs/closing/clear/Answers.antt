@@ -1,5 +1,4 @@
-use Rattle.std.proofs.Common.{◌≡◌, ◌+◌, ◌<◌, ◌∙◌, [], ◌∷◌, ◌++◌, All, sum_by, rules, arith, subst, sym, ap}
-use Rattle.std.proofs.lemmas.List.Sums.{sum_by_push}
+use Rattle.std.proofs.Common.{rules, arith}
 use Rattle.gj_serve.specs.declared.desks.Desk.{Desk}
 use Rattle.gj_serve.specs.Passes.{Tallies}
 use Rattle.gj_service.specs.Desks.{IsServedDesk}

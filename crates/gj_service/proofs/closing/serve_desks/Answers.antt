@@ -1,4 +1,4 @@
-use Rattle.std.proofs.Common.{◌≡◌, ℕ, ◌+◌, ◌<◌, List, length, slice_index_or, rules, arith, subst}
+use Rattle.std.proofs.Common.{◌≡◌, ℕ, ◌<◌, List, length, slice_index_or, rules, arith, subst}
 use Rattle.gj_serve.specs.Passes.{DeskServed}
 use Rattle.gj_serve.proofs.GivenLemmas.{are_served_later}
 use Rattle.gj_serve.specs.declared.desks.Desk.{Desk}

@@ -1,4 +1,3 @@
-use Rattle.std.proofs.Common.{◌≡◌}
 use Rattle.gj_service.proofs.ServiceLemmas.{writes_part}
 use Rattle.gj_service.proofs.lines.send_end.Goals as goal
 

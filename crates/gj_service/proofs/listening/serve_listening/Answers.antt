@@ -1,4 +1,4 @@
-use Rattle.std.proofs.Common.{◌≡◌, ◌∙◌, ◌<◌, ◌^◌, ap, sym, arith}
+use Rattle.std.proofs.Common.{◌≡◌, ◌∙◌, ap, sym, arith}
 use Rattle.gj_service.specs.Lines.{last_line, ready_line}
 use Rattle.gj_service.proofs.ServiceLemmas.{beginning_cut}
 use Rattle.gj_service.proofs.listening.serve_listening.Goals as goal

@@ -1,4 +1,4 @@
-use Rattle.std.proofs.Common.{◌≡◌, ◌+◌, ◌≤◌, [], ◌∷◌, ◌++◌, All, rules, arith, sym, subst}
+use Rattle.std.proofs.Common.{◌≡◌, rules}
 use Rattle.std.proofs.lemmas.List.Elements.{All-push}
 use Rattle.gj_serve.specs.declared.desks.Desk.{Desk}
 use Rattle.gj_publish.specs.Seats.{SeatView}
