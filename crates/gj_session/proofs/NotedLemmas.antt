@@ -1,19 +1,17 @@
 -- What the verdict on a numbered batch says of its answer.
-use Rattle.std.proofs.Common.{◌≡◌, ◌+◌, ◌≤◌, ℕ, List, Bool, Result, Ok, Err, refl, ap, sym, subst, arith}
+use Rattle.std.proofs.Common.{◌≡◌, ℕ, List, Bool, Result, Ok, Err, refl, sym, subst, arith}
 use Rattle.std.proofs.lemmas.Bool.Decides.{nat_tests}
 use Rattle.gj_base.specs.declared.item.Item.{Item}
 use Rattle.gj_base.specs.declared.item.Receipt.{Receipt}
 use Rattle.gj_once.specs.Judging.{judged, last_of}
 use Rattle.gj_once.specs.NotedPosts.{Answers, IsPosted}
 use Rattle.gj_once.specs.declared.noted_index.Noted.{Noted}
-use Rattle.gj_once.specs.declared.noted_index.Noted.TheVariants.{New, Repeated}
+use Rattle.gj_once.specs.declared.noted_index.Noted.TheVariants.{Repeated}
 use Rattle.gj_once.specs.declared.noted_index.OnceError.{OnceError}
 use Rattle.gj_once.specs.declared.noted_index.OnceError.TheVariants as refused
 use Rattle.gj_once.specs.declared.verdict.LastBatch.{LastBatch}
 use Rattle.gj_once.specs.declared.verdict.Verdict.{Verdict}
 use Rattle.gj_once.specs.declared.verdict.Verdict.TheVariants.{Fresh, Repeat, Old, Skipped}
-use Rattle.gj_reply.specs.declared.fixed.Fixed.TheVariants as fixed
-use Rattle.gj_session.specs.Batches.{AnswersBatch}
 use Rattle.gj_session.specs.Marks.{Mark}
 use Rattle.gj_session.specs.NotedBatches.{AnswersJudged}
 use Rattle.gj_session.specs.declared.outcome.Outcome.{Outcome}

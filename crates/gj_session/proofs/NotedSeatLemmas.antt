@@ -15,7 +15,7 @@ use Rattle.gj_once.specs.declared.verdict.LastBatch.{LastBatch}
 use Rattle.gj_once.specs.declared.verdict.Verdict.{Verdict}
 use Rattle.gj_once.specs.declared.verdict.Verdict.TheVariants as verdict
 use Rattle.gj_publish.specs.Answers.{IsUnmet}
-use Rattle.gj_publish.specs.NotedAnswers.{Answers, IfNew, IfRepeated, IsPosted, OnNew, after_noted, noted_by}
+use Rattle.gj_publish.specs.NotedAnswers.{Answers, IfNew, IfRepeated, OnNew, after_noted, noted_by}
 use Rattle.gj_publish.specs.Seats.{SeatView, Numbers, after_verdict, raised}
 use Rattle.gj_publish.specs.Writers.{by_seat}
 use Rattle.gj_publish.specs.declared.refusal.NoLook.{NoLook}
@@ -23,18 +23,16 @@ use Rattle.gj_publish.specs.declared.refusal.NotedError.{NotedError}
 use Rattle.gj_publish.specs.declared.refusal.NotedError.TheVariants as refused
 use Rattle.gj_publish.specs.declared.refusal.PostError.{PostError}
 use Rattle.gj_publish.specs.declared.refusal.PostError.TheVariants as posts
-use Rattle.gj_reply.specs.declared.fixed.Fixed.{Fixed}
 use Rattle.gj_reply.specs.declared.fixed.Fixed.TheVariants as fixed
-use Rattle.gj_reply.specs.declared.reply.Reply.{Reply}
 use Rattle.gj_reply.specs.declared.reply.Reply.TheVariants as replies
 use Rattle.gj_session.specs.IndexRuns.{one_if}
-use Rattle.gj_session.specs.NotedBatches.{AnswersJudged, AnswersKnown, AnswersWhere, Lacks, noted_after, places_after}
+use Rattle.gj_session.specs.NotedBatches.{AnswersJudged, AnswersKnown, Lacks, noted_after, places_after}
 use Rattle.gj_session.specs.SeatReplies.{entered_items, outcome_of, outcome_of_noted, outcome_of_refusal}
 use Rattle.gj_session.specs.SeatRuns.{mark_of, is_batch_look, is_noted_look, is_fresh, CountedOne, SameSeat, SeatAnswers}
 use Rattle.gj_session.specs.declared.outcome.Outcome.{Outcome}
 use Rattle.gj_session.specs.declared.outcome.Outcome.TheVariants.{Says, Stands}
 use Rattle.gj_session.proofs.RunLemmas.{length_extend}
-use Rattle.gj_session.proofs.SeatLemmas.{PostSays, post_answers, post_enters, none_enter, rose_once, rose_stays, rose_shown, made_once, made_stays}
+use Rattle.gj_session.proofs.SeatLemmas.{PostSays, post_answers, none_enter, rose_once, rose_stays, rose_shown, made_once, made_stays}
 
 -- what the post of a numbered batch says of the seat, before and after, and of the history, with what the writer was and is
 -- told to be

@@ -22,7 +22,7 @@ use Rattle.gj_session.specs.Batches.{AnswersBatch, SaysOfBatch, FixedOfBatch}
 use Rattle.gj_session.specs.Heard.{heard, lack_of}
 use Rattle.gj_session.specs.Loop.{LedBy}
 use Rattle.gj_session.specs.Marks.{Mark}
-use Rattle.gj_session.specs.NotedBatches.{AnswersJudged, AnswersNoted, AnswersRepeat, AnswersWhere, Lacks}
+use Rattle.gj_session.specs.NotedBatches.{AnswersJudged, AnswersNoted, AnswersRepeat, Lacks}
 use Rattle.gj_session.specs.Outcomes.{is_store, is_full, is_apart, is_no_look, is_repeated, is_old, is_skipped}
 use Rattle.gj_session.specs.Runs.{Exchange, Run}
 use Rattle.gj_session.specs.SeatLaws.{same_seat}

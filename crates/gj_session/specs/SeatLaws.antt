@@ -1,5 +1,5 @@
 -- The laws of a seat that answers messages.
-use Rattle.std.specs.Prelude.{◌≡◌, ℕ, ◌≤◌, Bool, false, List, Result, Ok, Err, refl}
+use Rattle.std.specs.Prelude.{◌≡◌, ℕ, Bool, false, List, Result, Ok, Err, refl}
 use Rattle.std.proofs.Common.{inl, arith}
 use Rattle.gj_base.specs.Asks.{NotedBatch}
 use Rattle.gj_base.specs.Causes.{RoseBy}

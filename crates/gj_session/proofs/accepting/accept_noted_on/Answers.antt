@@ -1,4 +1,4 @@
-use Rattle.gj_session.proofs.BatchLemmas.{IndexNotes, notes_answer, stale_of}
+use Rattle.gj_session.proofs.BatchLemmas.{notes_answer, stale_of}
 use Rattle.gj_session.proofs.accepting.accept_noted_on.Goals as goal
 
 pub returns : goal.returns

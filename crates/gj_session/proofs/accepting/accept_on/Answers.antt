@@ -1,6 +1,5 @@
 use Rattle.std.proofs.Common.{refl}
-use Rattle.gj_session.specs.IndexRuns.{index_at}
-use Rattle.gj_session.proofs.BatchLemmas.{IndexPosts, posts_answer}
+use Rattle.gj_session.proofs.BatchLemmas.{posts_answer}
 use Rattle.gj_session.proofs.accepting.accept_on.Goals as goal
 
 pub returns : goal.returns

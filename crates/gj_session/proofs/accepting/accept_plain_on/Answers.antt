@@ -1,4 +1,4 @@
-use Rattle.gj_session.proofs.BatchLemmas.{IndexPosts, posts_answer}
+use Rattle.gj_session.proofs.BatchLemmas.{posts_answer}
 use Rattle.gj_session.proofs.accepting.accept_plain_on.Goals as goal
 
 pub returns : goal.returns
