@@ -6,3 +6,4 @@ pub mod SideLemmas
 pub mod NumberLemmas
 pub mod ReadLemmas
 pub mod ShowLemmas
+pub mod PickLemmas

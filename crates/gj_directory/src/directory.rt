@@ -2,6 +2,7 @@
 ghost use Rattle.std.specs.Prelude.{◌≡◌, ℕ, ◌+◌, ◌-◌, ◌<◌, ◌≤◌, ◌↔◌, ◌++◌, [], ◌∷◌, length, take, drop, count_by, IfOk, IfSome, IsTrue, slice_get, slice_index, Some, None};
 ghost use Rattle.std.specs.VecDeque.{deque_capacity};
 ghost use Rattle.gj_base.specs.declared.mask.Mask.{Mask};
+ghost use Rattle.gj_base.specs.Edges.{edges_of};
 ghost use Rattle.gj_base.specs.Ends.{ends, passes};
 ghost use Rattle.gj_base.specs.Firsts.{place_of};
 ghost use Rattle.gj_base.specs.Kinds.{all_kinds};
@@ -10,6 +11,7 @@ ghost use Rattle.gj_directory.specs.Directories.{held, ids_of};
 
 use crate::half::Half;
 use crate::parts::between;
+use crate::picking::{marks_of, pick_marked};
 use crate::reads::{count_in, end_in, half_of, total_in};
 use gj_base::{Item, Kind, Mask, Memory, Side};
 use gj_compact::{Counts, Edge, NO_COUNTS};
@@ -242,5 +244,19 @@ impl Directory {
             .renumber(Side::Post, &mut self.edges, &mut self.ids);
         self.users.settle(Side::User, &self.edges, 0, self.full);
         self.posts.settle(Side::Post, &self.edges, 0, self.full);
+    }
+
+    /// The eligible interactions of these users, in order. It takes time in the number of all interactions, and memory for
+    /// those that it gives and a byte for each identifier of a user.
+    pub fn edges_of(&self, alloc: Global, users: &[u64], mask: Mask) -> Result<Vec<Item>, Memory>
+        ensures { IfOk result (λ edges. edges.items ≡ edges_of (held self.now) users.now mask) }
+    {
+        let (names, posts) = (&self.users.names, &self.posts.names);
+        let marks = marks_of(alloc, names, users)?;
+        let (front, back) = self.edges.as_slices();
+        let mut picked = Vec::new(alloc);
+        pick_marked(&mut picked, front, names, posts, &marks, mask)?;
+        pick_marked(&mut picked, back, names, posts, &marks, mask)?;
+        Ok(picked)
     }
 }
