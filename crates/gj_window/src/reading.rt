@@ -1,13 +1,15 @@
 //! How the segments of a window are read.
-ghost use Rattle.std.specs.Prelude.{◌≡◌, ◌+◌, ◌^◌, ◌<◌, ◌≤◌, ◌++◌, length, count_by, slice_get, slice_index, Some, IfSome};
+ghost use Rattle.std.specs.Prelude.{◌≡◌, ◌+◌, ◌^◌, ◌<◌, ◌≤◌, ◌++◌, length, count_by, slice_get, slice_index, Some, IfOk, IfSome};
 ghost use Rattle.gj_base.specs.Draw.{end_picked};
+ghost use Rattle.gj_base.specs.Edges.{edges_of};
 ghost use Rattle.gj_base.specs.Ends.{ends, other_side, passes};
 ghost use Rattle.gj_base.specs.Kinds.{all_kinds};
 ghost use Rattle.gj_window.specs.Segments.{items_of, names_on};
 
 use crate::segments::Segments;
-use gj_base::{Item, Kind, Mask, SegmentView, Side, count_in, end_in, pick};
+use gj_base::{Item, Kind, Mask, Memory, SegmentView, Side, count_in, end_in, pick};
 use gj_segment::PoolSegment;
+use std::alloc::Global;
 
 /// How many ends the vertex has in a pool under the mask. One that is not in use has none, and isn't searched.
 #[inline]
@@ -173,5 +175,12 @@ impl Segments {
             Some(v) => self.pick_at(side, v, id, mask, word),
             None => None,
         }
+    }
+
+    /// The eligible interactions of these users, in order. It takes time in the number of all interactions, and memory.
+    pub fn edges_of(&self, alloc: Global, users: &[u64], mask: Mask) -> Result<Vec<Item>, Memory>
+        ensures { IfOk result (λ edges. edges.items ≡ edges_of (items_of self.now) users.now mask) }
+    {
+        self.directory.edges_of(alloc, users, mask)
     }
 }

@@ -170,6 +170,28 @@ fn same_reads<A: Graph, B: Graph>(rt: &impl Abort, one: &A, other: &B) {
     }
 }
 
+/// The interactions of users, some of them absent or repeated, under kinds and moments.
+fn same_edges<A: Graph, B: Graph>(
+    rt: &(impl Abort + AllocGlobal),
+    one: &A,
+    other: &B,
+) -> Result<(), Memory> {
+    let click = Mask::one(Kind::Click);
+    let late = Mask::all().from_moment(500);
+    let asked: [&[u64]; 4] = [&[], &[5, 6], &[56, 5, 1, 56], &IDS];
+    for mask in [Mask::all(), click.with(Kind::Tweet), late] {
+        for users in asked {
+            let edges = one.edges_of(rt.alloc(), users, mask)?;
+            let found = other.edges_of(rt.alloc(), users, mask)?;
+            assert_eq!(rt; found.len(), edges.len(), "{users:?} {mask:?}");
+            for (x, y) in found.iter().zip(&edges) {
+                assert_eq!(rt; *x, *y, "{users:?} {mask:?}");
+            }
+        }
+    }
+    Ok(())
+}
+
 /// The next of the words that choose items and compactions.
 fn next(word: u64) -> u64 {
     word.wrapping_mul(6_364_136_223_846_793_005)
@@ -182,7 +204,12 @@ fn id_by(word: u64) -> u64 {
 }
 
 /// The same random interactions for both, `between` of them before each comparison.
-fn grow_alike<A: Grow, B: Grow>(rt: &impl Abort, one: &mut A, other: &mut B, between: u32) {
+fn grow_alike<A: Grow, B: Grow>(
+    rt: &(impl Abort + AllocGlobal),
+    one: &mut A,
+    other: &mut B,
+    between: u32,
+) -> Result<(), Memory> {
     let mut word = 1;
     for _ in 0..8 {
         for _ in 0..between {
@@ -196,7 +223,9 @@ fn grow_alike<A: Grow, B: Grow>(rt: &impl Abort, one: &mut A, other: &mut B, bet
             }
         }
         same_reads(rt, one, other);
+        same_edges(rt, one, other)?;
     }
+    Ok(())
 }
 
 #[test]
@@ -204,7 +233,7 @@ fn a_window_reads_as_the_plain_graph_does(rt: HostRuntime) -> Result<(), Fail> {
     for (segments, between) in [(1, 7), (2, 11), (3, 25), (64, 170)] {
         let mut plain: ListGraph = empty(&rt, rt.alloc(), 16, segments)?;
         let mut window: Window = empty(&rt, rt.alloc(), 16, segments)?;
-        grow_alike(&rt, &mut plain, &mut window, between);
+        grow_alike(&rt, &mut plain, &mut window, between)?;
     }
     Ok(())
 }

@@ -86,6 +86,10 @@ impl Graph for Window {
     fn pick_end(&self, side: Side, id: u64, mask: Mask, word: u64) -> Option<u64> {
         self.segments.pick_end(side, id, mask, word)
     }
+
+    fn edges_of(&self, alloc: Global, users: &[u64], mask: Mask) -> Result<Vec<Item>, Memory> {
+        self.segments.edges_of(alloc, users, mask)
+    }
 }
 
 impl Grow for Window {
