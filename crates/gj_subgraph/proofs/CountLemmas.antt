@@ -4,7 +4,8 @@ use Rattle.std.proofs.Math.Bool.{or-false}
 use Rattle.std.proofs.lemmas.Bool.Decides.{nat_tests}
 use Rattle.std.proofs.lemmas.List.Sums.{sum_by-cons, sum_by-append}
 use Rattle.std.proofs.lemmas.List.Folds.{list_any-append}
-use Rattle.gj_subgraph.specs.Masses.{stands_in, count_of, with_vertex, vertices}
+use Rattle.gj_base.specs.Edges.{stands_in}
+use Rattle.gj_subgraph.specs.Masses.{count_of, with_vertex, vertices}
 
 abbrev pub bit : Bool → ℕ
 bit b = cond b 1 0

@@ -2,7 +2,8 @@
 use Rattle.std.proofs.Common.{◌≡◌, ℕ, zero, suc, ◌+◌, ◌-◌, ◌*◌, ◌/◌, ◌%◌, ◌<◌, ◌∙◌, ◌++◌, min, Bool, true, false, cond, nat_eq, nat_lt, List, [], ◌∷◌, length, sum, sum_by, ap, sym, refl, arith}
 use Rattle.std.proofs.lemmas.Bool.Decides.{nat_tests}
 use Rattle.std.proofs.lemmas.List.Sums.{sum_by-cons}
-use Rattle.gj_subgraph.specs.Masses.{stands_in, count_of, carried, carried_after, arrived, half_step, vertices, total_after, starting}
+use Rattle.gj_base.specs.Edges.{stands_in}
+use Rattle.gj_subgraph.specs.Masses.{count_of, carried, carried_after, arrived, half_step, vertices, total_after, starting}
 use Rattle.gj_subgraph.proofs.CountLemmas.{bit, Every, Covers, eqb_sym, eqb_same, count_cons, count_push, count_stands, vertices_stand, vertices_cover}
 
 -- the edges of one vertex together carry its units

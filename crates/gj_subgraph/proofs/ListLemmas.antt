@@ -8,7 +8,8 @@ use Rattle.gj_base.specs.declared.kind.Kind.{Kind}
 use Rattle.gj_base.specs.declared.mask.Mask.{Mask}
 use Rattle.gj_base.specs.declared.side.Side.TheVariants.{User, Post}
 use Rattle.gj_base.specs.Ends.{ends, passes, end_across, is_eligible}
-use Rattle.gj_subgraph.specs.Masses.{stands_in, count_of, edges_of, users_of, posts_of, vertices}
+use Rattle.gj_base.specs.Edges.{stands_in, edges_of}
+use Rattle.gj_subgraph.specs.Masses.{count_of, users_of, posts_of, vertices}
 use Rattle.gj_subgraph.specs.Regrouped.{far_at, ends_at, HaveSameEdges}
 use Rattle.gj_subgraph.proofs.CountLemmas.{bit, eqb_self, eqb_same, count_append, count_push, count_stands}
 use Rattle.gj_subgraph.proofs.RegroupLemmas.{count_far, uncounted, same_far_count}

@@ -1,14 +1,14 @@
 -- From the window to the masses.
-use Rattle.std.proofs.Common.{◌≡◌, ℕ, zero, suc, ◌+◌, ◌<◌, ◌≤◌, ◌∙◌, ◌++◌, ◌||◌, ◌&&◌, Bool, true, false, cond, nat_eq, List, [], ◌∷◌, length, fold, sum_by, take, get_or, map, filter, replicate, slice_get, Some, ap, sym, refl, arith}
-use Rattle.std.proofs.lemmas.List.{take_more}
+use Rattle.std.proofs.Common.{◌≡◌, ℕ, suc, ◌+◌, ◌<◌, ◌≤◌, ◌∙◌, ◌++◌, ◌||◌, ◌&&◌, Bool, true, false, cond, nat_eq, List, [], ◌∷◌, length, fold, sum_by, take, get_or, map, filter, replicate, ap, sym, refl, arith}
+use Rattle.std.proofs.lemmas.List.{take_more, take_all}
 use Rattle.std.proofs.lemmas.List.Sums.{sum_by-cons, fold_more}
-use Rattle.std.proofs.lemmas.Option.{get_or_from_slice_get, slice_get_within}
 use mathlib.Core.Path.{fun_ext}
 use Rattle.gj_base.specs.declared.item.Item.{Item}
 use Rattle.gj_base.specs.declared.mask.Mask.{Mask}
 use Rattle.gj_base.specs.Ends.{passes}
 use Rattle.gj_base.specs.Tally.{with_number}
-use Rattle.gj_subgraph.specs.Masses.{stands_in, count_of, edges_of, users_of, posts_of, half_step, vertices, spread, starting, with_mass}
+use Rattle.gj_base.specs.Edges.{stands_in, edges_of}
+use Rattle.gj_subgraph.specs.Masses.{count_of, users_of, posts_of, half_step, vertices, spread, starting, with_mass}
 use Rattle.gj_subgraph.specs.Numbers.{units_in}
 use Rattle.gj_subgraph.proofs.CountLemmas.{bit, Every, every_weaker, count_cons, count_stands, vertices_once, vertices_from}
 use Rattle.gj_subgraph.proofs.LawLemmas.{sum_same, sum_plus, sum_pick}
@@ -17,48 +17,19 @@ use Rattle.gj_subgraph.proofs.StepLemmas.{stands_vertices, units_at}
 
 -- edges
 
-filter_push : (p : Item → Bool) (xs : List Item) (x : Item) → filter p (xs ++ x ∷ []) ≡ cond (p x) (filter p xs ++ x ∷ []) (filter p xs)
-filter_push p [] x = refl
-filter_push p (y ∷ ys) x = push_case (p y) (p x) p ys x y (filter_push p ys x)
-  where
-    push_case : (b c : Bool) (p : Item → Bool) (ys : List Item) (x y : Item) → filter p (ys ++ x ∷ []) ≡ cond c (filter p ys ++ x ∷ []) (filter p ys)
-        → cond b (y ∷ filter p (ys ++ x ∷ [])) (filter p (ys ++ x ∷ [])) ≡ cond c (cond b (y ∷ filter p ys) (filter p ys) ++ x ∷ []) (cond b (y ∷ filter p ys) (filter p ys))
-    push_case true true p ys x y e = ap (λ l. y ∷ l) e
-    push_case true false p ys x y e = ap (λ l. y ∷ l) e
-    push_case false true p ys x y e = e
-    push_case false false p ys x y e = e
-
 map_push : (f : Item → ℕ) (xs : List Item) (x : Item) → map f (xs ++ x ∷ []) ≡ map f xs ++ f x ∷ []
 map_push f [] x = refl
 map_push f (y ∷ ys) x = ap (λ l. f y ∷ l) (map_push f ys x)
 
-pub edges_more : (f : Item → ℕ) (items : List Item) (seeds : List ℕ) (mask : Mask) (i : ℕ) (x : Item) → slice_get items i ≡ Some x
-    → map f (edges_of (take (i + 1) items) seeds mask)
-    ≡ cond (passes mask x && stands_in seeds x.user) (map f (edges_of (take i items) seeds mask) ++ f x ∷ []) (map f (edges_of (take i items) seeds mask))
-unfolding edges_of
-edges_more f items seeds mask i x is =
-    let within = slice_get_within items i x is in
-    let one : take (i + 1) items ≡ take i items ++ x ∷ [] = take_more items i x within ∙ ap (λ y. take i items ++ y ∷ []) (get_or_from_slice_get items i x x is) in
-    let p : Item → Bool = λ x. passes mask x && stands_in seeds x.user in
-    rw (one, filter_push p (take i items) x) (more_case (passes mask x && stands_in seeds x.user) (filter p (take i items)))
-  where
-    more_case : (b : Bool) (xs : List Item) → map f (cond b (xs ++ x ∷ []) xs) ≡ cond b (map f xs ++ f x ∷ []) (map f xs)
-    more_case true xs = map_push f xs x
-    more_case false xs = refl
+-- a column of edges, with one more
+pub column_more : (f : Item → ℕ) (edges : List Item) (i : ℕ) (x : Item) (column more : List ℕ) (value : ℕ) → i < length edges → x ≡ get_or edges i x → value ≡ f x
+    → column ≡ map f (take i edges) → more ≡ column ++ value ∷ [] → more ≡ map f (take (i + 1) edges)
+column_more f edges i x column more value within at is was grown =
+    let one : take (i + 1) edges ≡ take i edges ++ x ∷ [] = take_more edges i x within ∙ ap (λ y. take i edges ++ y ∷ []) (sym at) in
+    rw (one, map_push f (take i edges) x, ← was, ← is) grown
 
-pub edges_none : (f : Item → ℕ) (seeds : List ℕ) (mask : Mask) → map f (edges_of [] seeds mask) ≡ []
-unfolding edges_of
-edges_none f seeds mask = refl
-
-take_items : (n : ℕ) (xs : List Item) → length xs ≤ n → take n xs ≡ xs
-take_items zero [] h = refl
-take_items zero (x ∷ xs) h = absurd (omega arith)
-take_items (suc n) [] h = refl
-take_items (suc n) (x ∷ xs) h = ap (λ l. x ∷ l) (take_items n xs (omega arith))
-
-pub edges_all : (f : Item → ℕ) (items : List Item) (seeds : List ℕ) (mask : Mask) (n : ℕ) → length items ≤ n
-    → map f (edges_of (take n items) seeds mask) ≡ map f (edges_of items seeds mask)
-edges_all f items seeds mask n h = ap (λ l. map f (edges_of l seeds mask)) (take_items n items h)
+pub column_whole : (f : Item → ℕ) (edges : List Item) (n : ℕ) → length edges ≤ n → map f (take n edges) ≡ map f edges
+column_whole f edges n long = ap (map f) (take_all n edges long)
 
 pub same_edges : (items : List Item) (seeds : List ℕ) (mask : Mask) → length (users_of (edges_of items seeds mask)) ≡ length (posts_of (edges_of items seeds mask))
 same_edges items seeds mask = both (edges_of items seeds mask)

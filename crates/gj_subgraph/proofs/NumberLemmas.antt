@@ -4,7 +4,8 @@ use Rattle.std.proofs.lemmas.Bool.{cases_lt}
 use Rattle.std.proofs.lemmas.List.{length-take}
 use Rattle.std.proofs.lemmas.List.Sums.{count_by-le-length}
 use Rattle.std.proofs.lemmas.Bool.Decides.{nat_tests}
-use Rattle.gj_subgraph.specs.Masses.{stands_in, count_of, with_vertex, vertices}
+use Rattle.gj_base.specs.Edges.{stands_in}
+use Rattle.gj_subgraph.specs.Masses.{count_of, with_vertex, vertices}
 use Rattle.gj_subgraph.specs.Numbers.{ArePlaced, AreDegrees}
 use Rattle.gj_subgraph.proofs.CountLemmas.{bit, eqb_self, count_cons, count_push, vertices_once}
 

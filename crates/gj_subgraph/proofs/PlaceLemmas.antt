@@ -1,10 +1,10 @@
 -- Vertices that have places among identifiers stand there, and the others do not.
-use Rattle.std.proofs.Common.{◌≡◌, ◌≢◌, ℕ, suc, ◌<◌, ◌∙◌, ◌||◌, ◌++◌, Bool, true, false, cond, nat_eq, List, [], ◌∷◌, length, get_or, is_some, ap, sym, refl, arith, inl, inr}
-use Rattle.std.proofs.lemmas.Bool.{cases_Bool, ne_eqb}
+use Rattle.std.proofs.Common.{◌≡◌, ◌≢◌, ℕ, suc, ◌<◌, ◌∙◌, ◌++◌, Bool, false, cond, List, [], ◌∷◌, length, get_or, is_some, ap, sym, refl, arith, inl, inr}
+use Rattle.std.proofs.lemmas.Bool.{ne_eqb}
 use Rattle.gj_base.specs.Firsts.{place_of, with_id, HasNoRepeat}
 use Rattle.gj_base.proofs.FirstLemmas.{place_of-Some, place_of-at, cases_place_of}
-use Rattle.gj_subgraph.specs.Masses.{stands_in, with_vertex}
-use Rattle.gj_subgraph.proofs.CountLemmas.{eqb_same, stands_push}
+use Rattle.gj_base.specs.Edges.{stands_in}
+use Rattle.gj_subgraph.specs.Masses.{with_vertex}
 use Rattle.gj_subgraph.proofs.NumberLemmas.{stands_at}
 
 stands_nowhere : (ids : List ℕ) (v : ℕ) → ((p : ℕ) → p < length ids → get_or ids p 0 ≢ v) → stands_in ids v ≡ false
@@ -23,17 +23,3 @@ place_stands ids v distinct = elim (cases_place_of ids v) [
 -- both say that a new one goes last
 pub with_same : (ids : List ℕ) (v : ℕ) → HasNoRepeat ids → with_id ids v ≡ with_vertex ids v
 with_same ids v distinct = ap (λ (b : Bool). cond b ids (ids ++ v ∷ [])) (place_stands ids v distinct)
-
-pub with_stands : (ids : List ℕ) (x v : ℕ) → stands_in (with_vertex ids x) v ≡ (stands_in ids v || nat_eq x v)
-with_stands ids x v = elim (cases_Bool (stands_in ids x)) [
-  | inl there ↦ rw there (there_already (nat_eq x v) refl there)
-  | inr new ↦ rw new (stands_push ids x v)
-]
-  where
-    there_already : (b : Bool) → nat_eq x v ≡ b → stands_in ids x ≡ true → stands_in ids v ≡ (stands_in ids v || b)
-    there_already true e h = let here : stands_in ids v ≡ true = rw (← (eqb_same x v e)) h in rw here refl
-    there_already false e h = or_false (stands_in ids v)
-      where
-        or_false : (b : Bool) → b ≡ (b || false)
-        or_false true = refl
-        or_false false = refl

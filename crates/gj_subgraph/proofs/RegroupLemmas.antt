@@ -2,7 +2,8 @@
 use Rattle.std.proofs.Common.{◌≡◌, ℕ, zero, suc, ◌+◌, ◌*◌, ◌/◌, ◌%◌, ◌<◌, ◌∙◌, ◌++◌, ◌||◌, Bool, true, false, cond, nat_eq, nat_lt, List, [], ◌∷◌, length, sum_by, ap, sym, refl, arith}
 use Rattle.std.proofs.lemmas.List.Sums.{sum_by-cons}
 use mathlib.Core.Path.{fun_ext}
-use Rattle.gj_subgraph.specs.Masses.{stands_in, count_of, carried, carried_after, arrived, half_step, vertices}
+use Rattle.gj_base.specs.Edges.{stands_in}
+use Rattle.gj_subgraph.specs.Masses.{count_of, carried, carried_after, arrived, half_step, vertices}
 use Rattle.gj_subgraph.specs.Regrouped.{far_at, HaveSameEdges}
 use Rattle.gj_subgraph.proofs.CountLemmas.{bit, Every, Covers, every_weaker, eqb_same, count_cons, count_push, count_stands, stands_self, vertices_once, vertices_cover}
 use Rattle.gj_subgraph.proofs.LawLemmas.{sum_same, sum_plus, sum_pick}

@@ -6,7 +6,8 @@ use Rattle.gj_base.specs.declared.item.Item.{Item}
 use Rattle.gj_base.specs.declared.mask.Mask.{Mask}
 use Rattle.gj_base.specs.Tally.{is_tally, number_at, with_number}
 use Rattle.gj_base.proofs.TallyLemmas.{is_tally-with_number, number_at-with_number, same_pairs}
-use Rattle.gj_subgraph.specs.Masses.{stands_in, count_of, arrived, edges_of, half_step, posts_of, spread, starting, users_of, vertices, with_mass}
+use Rattle.gj_base.specs.Edges.{stands_in, edges_of}
+use Rattle.gj_subgraph.specs.Masses.{count_of, arrived, half_step, posts_of, spread, starting, users_of, vertices, with_mass}
 use Rattle.gj_subgraph.specs.Numbers.{ArePlaced, units_in}
 use Rattle.gj_subgraph.specs.Regrouped.{AreRelaid, HaveSameEdges}
 use Rattle.gj_subgraph.proofs.CountLemmas.{Every, Covers, every_weaker, eqb_same, count_stands, stands_self, vertices_stand}

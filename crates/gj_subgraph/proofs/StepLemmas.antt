@@ -4,7 +4,8 @@ use Rattle.std.proofs.lemmas.Bool.Decides.{nat_tests}
 use Rattle.std.proofs.lemmas.List.{take_more, length-take, take-append-drop}
 use Rattle.std.proofs.lemmas.List.Sums.{sum_by-cons, sum_by-append}
 use mathlib.Core.Path.{fun_ext}
-use Rattle.gj_subgraph.specs.Masses.{stands_in, count_of, carried, carried_after, arrived, half_step, vertices}
+use Rattle.gj_base.specs.Edges.{stands_in}
+use Rattle.gj_subgraph.specs.Masses.{count_of, carried, carried_after, arrived, half_step, vertices}
 use Rattle.gj_subgraph.specs.Numbers.{ArePlaced, AreDegrees, units_in}
 use Rattle.gj_subgraph.proofs.CountLemmas.{bit, eqb_sym, Every, eqb_self, count_cons, count_stands, vertices_once, vertices_stand, vertices_cover}
 use Rattle.gj_subgraph.proofs.LawLemmas.{length_carried, near_sum, step_sum}

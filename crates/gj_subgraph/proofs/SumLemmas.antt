@@ -6,7 +6,8 @@ use Rattle.gj_base.specs.declared.item.Item.{Item}
 use Rattle.gj_base.specs.Asks.{SubQuery}
 use Rattle.gj_base.specs.Tally.{is_tally, sum_of, number_at, with_number}
 use Rattle.gj_base.proofs.TallyLemmas.{sum_of-with_number, is_tally-with_number, number_at-with_number}
-use Rattle.gj_subgraph.specs.Masses.{stands_in, edges_of, users_of, posts_of, vertices, half_step, spread, starting, with_mass, masses_of}
+use Rattle.gj_base.specs.Edges.{stands_in, edges_of}
+use Rattle.gj_subgraph.specs.Masses.{users_of, posts_of, vertices, half_step, spread, starting, with_mass, masses_of}
 use Rattle.gj_subgraph.proofs.CountLemmas.{Every, eqb_sym}
 use Rattle.gj_subgraph.proofs.NumberLemmas.{Distinct, vertices_distinct}
 use Rattle.gj_subgraph.proofs.StepLemmas.{head_absent, rest_distinct, or_no}

@@ -1,19 +1,9 @@
 -- Subgraph SALSA. After GraphJet (PVLDB 9(13), 2016). Own: whole units, whose remainder goes to a vertex's first edges.
-use Rattle.std.specs.Prelude.{ℕ, zero, suc, ◌+◌, ◌-◌, ◌*◌, ◌/◌, ◌%◌, ◌==◌, ◌&&◌, nat_lt, Bool, if◌then◌else◌, List, [], ◌∷◌, ◌++◌, map, filter, fold, sum_by, count_by}
-use Rattle.std.specs.List.{list_any}
+use Rattle.std.specs.Prelude.{ℕ, zero, suc, ◌+◌, ◌-◌, ◌*◌, ◌/◌, ◌%◌, ◌==◌, nat_lt, if◌then◌else◌, List, [], ◌∷◌, ◌++◌, map, fold, sum_by, count_by}
 use Rattle.gj_base.specs.declared.item.Item.{Item}
-use Rattle.gj_base.specs.declared.mask.Mask.{Mask}
 use Rattle.gj_base.specs.Asks.{SubQuery}
-use Rattle.gj_base.specs.Ends.{passes}
+use Rattle.gj_base.specs.Edges.{stands_in, edges_of}
 use Rattle.gj_base.specs.Tally.{with_number}
-
--- the vertex stands among these
-abbrev pub stands_in : List ℕ → ℕ → Bool
-stands_in ids v = list_any (λ id. id == v) ids
-
--- the edges of the subgraph: the eligible interactions whose user is a seed, in the window's order
-unfoldable pub edges_of : List Item → List ℕ → Mask → List Item
-edges_of items seeds mask = filter (λ x. passes mask x && stands_in seeds x.user) items
 
 -- the users of edges, edge by edge
 abbrev pub users_of : List Item → List ℕ

@@ -4,7 +4,8 @@ use Rattle.std.specs.declared.hash.FoldHasher.{FoldHasher}
 use Rattle.std.specs.declared.hash.BuildHasherDefault.{BuildHasherDefault}
 use Rattle.std.specs.HashMap.{get, HashMap}
 use Rattle.gj_subgraph.specs.declared.vertices.Vertices.{Vertices}
-use Rattle.gj_subgraph.specs.Masses.{stands_in, count_of, vertices}
+use Rattle.gj_base.specs.Edges.{stands_in}
+use Rattle.gj_subgraph.specs.Masses.{count_of, vertices}
 
 -- the map has the number of each name, and of no other vertex
 pub record AreNumbers (numbers : HashMap ℕ ℕ (BuildHasherDefault FoldHasher)) (names : List ℕ) : Type 0 where

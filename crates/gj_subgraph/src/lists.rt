@@ -2,7 +2,8 @@
 ghost use Rattle.std.specs.Prelude.{◌≡◌, ℕ, ◌==◌, ◌≤◌, ◌||◌, ◌++◌, ◌∷◌, [], filter, nat_eq, length, if◌then◌else◌, IfOk, OnOk};
 ghost use Rattle.std.specs.HashSet.{contains};
 ghost use Rattle.gj_base.specs.declared.side.Side.TheVariants as sides;
-ghost use Rattle.gj_subgraph.specs.Masses.{stands_in, count_of, edges_of, users_of, posts_of};
+ghost use Rattle.gj_base.specs.Edges.{stands_in, edges_of};
+ghost use Rattle.gj_subgraph.specs.Masses.{count_of, users_of, posts_of};
 ghost use Rattle.gj_subgraph.specs.Regrouped.{far_at, ends_at, HaveSameEdges};
 
 use crate::number::push;

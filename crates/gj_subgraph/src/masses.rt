@@ -1,20 +1,18 @@
 //! The masses of the posts.
-ghost use Rattle.std.specs.Prelude.{◌≡◌, ◌∷◌, ◌+◌, ◌-◌, ◌*◌, ◌<◌, ◌≤◌, ℕ, [], fold, length, nat_lt, nat_eq, replicate, ◌==◌, ◌&&◌, ◌++◌, if◌then◌else◌, is_some, IfOk, OnOk};
+ghost use Rattle.std.specs.Prelude.{◌≡◌, ◌∷◌, ◌+◌, ◌-◌, ◌*◌, ◌<◌, ◌≤◌, ℕ, [], fold, length, nat_lt, nat_eq, replicate, ◌==◌, if◌then◌else◌, IfOk, OnOk};
 ghost use Rattle.std.specs.HashSet.{contains};
-ghost use Rattle.gj_base.specs.Ends.{passes};
-ghost use Rattle.gj_base.specs.Firsts.{place_of};
+ghost use Rattle.gj_base.specs.Edges.{stands_in, edges_of};
 ghost use Rattle.gj_base.specs.Tally.{with_number, sum_of};
-ghost use Rattle.gj_subgraph.specs.Masses.{stands_in, edges_of, users_of, posts_of, vertices, starting, spread, with_mass, total_after, masses_of};
+ghost use Rattle.gj_subgraph.specs.Masses.{users_of, posts_of, vertices, starting, spread, with_mass, total_after, masses_of};
 ghost use Rattle.gj_subgraph.specs.Numbers.{AreNumbered, units_in};
 ghost use Rattle.gj_subgraph.specs.Regrouped.{HaveSameEdges};
 
 use crate::lists::{post_edges, user_edges};
-use crate::number::{numbered, push};
+use crate::number::{numbered, push, with_room};
 use crate::relaid::relaid_units;
 use crate::step::half_step;
 use crate::vertices::Vertices;
-use gj_base::{Graph, Item, Mask, Memory, Side, SubAsk, Tally};
-use gj_names::Names;
+use gj_base::{Graph, Mask, Memory, Side, SubAsk, Tally};
 use std::alloc::Global;
 use std::collections::HashSet;
 
@@ -27,8 +25,9 @@ const COST: u64 = 16;
 /// The units of the posts, after one half step to them, and for each further iteration one to the users and one back. The
 /// sum of the units is the same after each half step: in the end each seed user's 2^20 units stand at posts.
 ///
-/// Where the seeds have few edges it looks at these, and for a second iteration at all ends of their posts; else it looks
-/// at each interaction of the window once. Each half step looks at each edge three times.
+/// Where the seeds have few edges it looks at these, and for a second iteration at all ends of their posts; else it asks the
+/// graph for the edges of all seeds at once, which is one pass over the window. Each half step looks at each edge three
+/// times.
 pub fn subgraph<G: Graph>(alloc: Global, graph: &G, ask: &SubAsk) -> Result<Masses, Memory>
     ensures exact { IfOk result (λ masses. masses ≡ masses_of (G.shown graph.now).items ask.now) }
     ensures sum { IfOk result (λ masses. sum_of masses ≡ 1048576 * length (vertices (users_of (edges_of (G.shown graph.now).items ask.now.seeds ask.now.mask)))) }
@@ -117,7 +116,7 @@ fn listed_units<G: Graph>(
     Ok(units)
 }
 
-/// The masses, by a scan of the window.
+/// The masses, by the edges that a scan of the window gives.
 fn by_scan<G: Graph>(alloc: Global, graph: &G, ask: &SubAsk) -> Result<Masses, Memory>
     ensures { IfOk result (λ masses. masses ≡ masses_of (G.shown graph.now).items ask.now) }
 {
@@ -129,36 +128,6 @@ fn by_scan<G: Graph>(alloc: Global, graph: &G, ask: &SubAsk) -> Result<Masses, M
     Ok(found)
 }
 
-/// The seed users, each once.
-fn seed_names(alloc: Global, seeds: &[u64]) -> Result<Names, Memory>
-    requires { length seeds.now ≤ 1000 }
-    ensures { IfOk result (λ names. (user : ℕ) → is_some (place_of names.ids user) ≡ stands_in seeds.now user) }
-{
-    let mut names = Names::new(alloc, seeds.len().max(1) as u32)?;
-    for seed in seeds {
-        let _place = names.put(*seed);
-    }
-    Ok(names)
-}
-
-/// Keeps the user and the post of an interaction that is an edge of the subgraph.
-fn keep_edge(
-    item: Item,
-    mask: Mask,
-    seeds: &Names,
-    users: &mut Vec<u64>,
-    posts: &mut Vec<u64>,
-) -> Result<(), Memory>
-    ensures users { OnOk result (users.new.items ≡ (if passes mask item && is_some (place_of seeds.now.ids item.user) then users.old.items ++ item.user ∷ [] else users.old.items)) }
-    ensures posts { OnOk result (posts.new.items ≡ (if passes mask item && is_some (place_of seeds.now.ids item.user) then posts.old.items ++ item.post ∷ [] else posts.old.items)) }
-{
-    if mask.lets(item.kind, item.at) && seeds.find(item.user).is_some() {
-        push(users, item.user)?;
-        push(posts, item.post)?;
-    }
-    Ok(())
-}
-
 /// The users and the posts of the subgraph's edges, edge by edge.
 fn edges<G: Graph>(
     alloc: Global,
@@ -166,15 +135,15 @@ fn edges<G: Graph>(
     seeds: &[u64],
     mask: Mask,
 ) -> Result<(Vec<u64>, Vec<u64>), Memory>
-    requires { length seeds.now ≤ 1000 }
     ensures users { IfOk result (λ r. r.0.items ≡ users_of (edges_of (G.shown graph.now).items seeds.now mask)) }
     ensures posts { IfOk result (λ r. r.1.items ≡ posts_of (edges_of (G.shown graph.now).items seeds.now mask)) }
 {
-    let names = seed_names(alloc, seeds)?;
-    let mut users = Vec::new(alloc);
-    let mut posts = Vec::new(alloc);
-    for place in graph.base()..graph.length() {
-        keep_edge(graph.item(place), mask, &names, &mut users, &mut posts)?;
+    let found = graph.edges_of(alloc, seeds, mask)?;
+    let mut users = with_room(alloc, found.len())?;
+    let mut posts = with_room(alloc, found.len())?;
+    for edge in &found {
+        push(&mut users, edge.user)?;
+        push(&mut posts, edge.post)?;
     }
     Ok((users, posts))
 }

@@ -1,5 +1,5 @@
 //! Numbers for the vertices of a side.
-ghost use Rattle.std.specs.Prelude.{◌≡◌, ℕ, ◌+◌, ◌^◌, ◌<◌, ◌≤◌, ◌++◌, ◌∷◌, [], None, nat_eq, if◌then◌else◌, length, slice_index, slice_set, vec_len, IfOk, OnOk, OnErr};
+ghost use Rattle.std.specs.Prelude.{◌≡◌, ℕ, ◌+◌, ◌^◌, ◌<◌, ◌≤◌, ◌++◌, ◌∷◌, [], None, nat_eq, if◌then◌else◌, length, slice_index, slice_set, vec_len, vec_capacity, IfOk, OnOk, OnErr};
 ghost use Rattle.std.specs.HashMap.{get};
 ghost use Rattle.gj_subgraph.specs.Masses.{with_vertex, vertices};
 ghost use Rattle.gj_subgraph.specs.Numbers.{AreNumbers, ArePlaced, AreDegrees, AreNumbered};
@@ -19,6 +19,17 @@ pub fn push<T: Drop>(values: &mut Vec<T>, x: T) -> Result<(), Memory>
 {
     match values.push(x) {
         Ok(()) => Ok(()),
+        Err(_) => Err(Memory),
+    }
+}
+
+/// An empty list, with room for so many values.
+pub fn with_room<T: Drop>(alloc: Global, room: usize) -> Result<Vec<T>, Memory>
+    ensures empty { IfOk result (λ values. values.items ≡ []) }
+    ensures room { IfOk result (λ values. room ≤ vec_capacity values) }
+{
+    match Vec::with_capacity(alloc, room) {
+        Ok(values) => Ok(values),
         Err(_) => Err(Memory),
     }
 }
@@ -75,7 +86,7 @@ fn room_for(side: &[u64]) -> Result<u32, Memory>
 fn listed(alloc: Global, names: &Names) -> Result<Vec<u64>, Memory>
     ensures { IfOk result (λ ids. ids.items ≡ names.now.ids) }
 {
-    let mut ids = Vec::new(alloc);
+    let mut ids = with_room(alloc, names.len() as usize)?;
     for v in 0..names.len() {
         push(&mut ids, names.id_of(v))?;
     }
@@ -88,7 +99,7 @@ fn places_of(alloc: Global, side: &[u64]) -> Result<(Vec<u64>, Vec<usize>), Memo
     ensures places { IfOk result (λ r. ArePlaced side.now r.0.items r.1.items) }
 {
     let mut names = Names::new(alloc, room_for(side)?)?;
-    let mut places = Vec::new(alloc);
+    let mut places = with_room(alloc, side.len())?;
     for id in side {
         push(&mut places, names.put(*id) as usize)?;
     }

@@ -1,6 +1,7 @@
 //! Half steps over edges that lie by users, and once more by posts.
 ghost use Rattle.std.specs.Prelude.{◌≡◌, ℕ, List, ◌-◌, ◌*◌, ◌^◌, ◌<◌, ◌≤◌, true, length, sum, slice_index, IfOk};
-ghost use Rattle.gj_subgraph.specs.Masses.{stands_in, vertices, half_step, spread, starting};
+ghost use Rattle.gj_base.specs.Edges.{stands_in};
+ghost use Rattle.gj_subgraph.specs.Masses.{vertices, half_step, spread, starting};
 ghost use Rattle.gj_subgraph.specs.Numbers.{AreNumbers, AreNumbered, ArePlaced, units_in};
 ghost use Rattle.gj_subgraph.specs.Regrouped.{AreRelaid, HaveSameEdges};
 

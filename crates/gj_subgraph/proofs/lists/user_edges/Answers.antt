@@ -1,7 +1,7 @@
 use Rattle.std.proofs.Common.{◌∙◌, ◌||◌, ℕ, ap, sym, nat_eq, take, get_or, rules, refl}
 use Rattle.std.specs.HashSet.{contains}
 use Rattle.gj_base.specs.declared.side.Side.TheVariants.{User}
-use Rattle.gj_subgraph.specs.Masses.{stands_in}
+use Rattle.gj_base.specs.Edges.{stands_in}
 use Rattle.gj_subgraph.specs.Regrouped.{far_at, ends_at}
 use Rattle.gj_subgraph.proofs.CountLemmas.{eqb_same}
 use Rattle.gj_subgraph.proofs.ListLemmas.{far_none, seed_case, seeds_all, stands_more, user_edges_same}

@@ -1,7 +1,7 @@
 use Rattle.std.proofs.Common.{◌≡◌, ℕ, [], cond, nat_eq, length, take}
 use Rattle.std.specs.HashSet.{contains}
 use Rattle.gj_base.specs.declared.side.Side.TheVariants.{User}
-use Rattle.gj_subgraph.specs.Masses.{stands_in}
+use Rattle.gj_base.specs.Edges.{stands_in}
 use Rattle.gj_subgraph.specs.Regrouped.{far_at, ends_at}
 use Rattle.gj_subgraph.proofs.lists.user_edges.Given as goal
 

@@ -1,5 +1,6 @@
 use Rattle.std.proofs.Common.{◌-◌, ◌*◌, ◌∙◌, ap, arith, length, fold, []}
-use Rattle.gj_subgraph.specs.Masses.{edges_of, users_of, posts_of, vertices, masses_of, with_mass, spread, starting}
+use Rattle.gj_base.specs.Edges.{edges_of}
+use Rattle.gj_subgraph.specs.Masses.{users_of, posts_of, vertices, masses_of, with_mass, spread, starting}
 use Rattle.gj_subgraph.specs.Numbers.{units_in}
 use Rattle.gj_subgraph.proofs.MassLemmas.{few_users}
 use Rattle.gj_subgraph.proofs.masses.by_scan.Goals as goal

@@ -1,28 +1,25 @@
-use Rattle.std.proofs.Common.{◌≡◌, ◌+◌, ◌-◌, ◌∙◌, sym, arith}
-use Rattle.gj_subgraph.proofs.MassLemmas.{edges_more, edges_none}
+use Rattle.std.proofs.Common.{◌∙◌, ap}
+use Rattle.gj_base.specs.declared.item.Item.{Item}
+use Rattle.gj_subgraph.specs.Masses.{users_of, posts_of}
+use Rattle.gj_subgraph.proofs.MassLemmas.{column_more, column_whole}
 use Rattle.gj_subgraph.proofs.masses.edges.Goals as goal
 
-pub loop-place-init : goal.loop-place-init
-loop-place-init g c =
-    let shown = g.G.Graph.shown c.args.graph.now in
-    let none : c.base-place.result - shown.first ≡ 0 = omega (arith, c.base-place.ensures.exact) in
+pub loop-edge-preserved : goal.loop-edge-preserved
+loop-edge-preserved g c =
+    let found = c.deref-edge-items.result.now in
     record {
-      from_base = omega (arith, c.base-place.ensures.exact);
-      users = rw none (c.new-users.ensures.items ∙ sym (edges_none (λ x. x.user) c.args.seeds.now c.args.mask));
-      posts = rw none (c.new-posts.ensures.items ∙ sym (edges_none (λ x. x.post) c.args.seeds.now c.args.mask));
+      users = column_more (λ x. x.user) found c.loop-edge.edge-index c.edge-item.result c.loop-edge.users.items c.push.new.values.items c.edge.inside.user c.loop-edge-test.true
+          c.edge-item.is (ap (λ (x : Item). x.user) c.edge.view_is) c.loop-edge.invariant.users c.in_ok-push.ensures;
+      posts = column_more (λ x. x.post) found c.loop-edge.edge-index c.edge-item.result c.loop-edge.posts.items c.push-in-loop-edge.new.values.items c.edge.inside.post c.loop-edge-test.true
+          c.edge-item.is (ap (λ (x : Item). x.post) c.edge.view_is) c.loop-edge.invariant.posts c.in_ok-push-2.ensures;
     }
 
-pub loop-place-preserved : goal.loop-place-preserved
-loop-place-preserved g c =
-    let shown = g.G.Graph.shown c.args.graph.now in
-    let i = c.loop-place.place - shown.first in
-    let next : c.loop-place.place + 1 - shown.first ≡ i + 1 = omega (arith, c.loop-place.invariant.from_base) in
-    let item = c.item.result in
-    let known = c.in_ok-names.ensures item.user in
-    record {
-      from_base = omega (arith, c.loop-place.invariant.from_base);
-      users = rw (next, edges_more (λ x. x.user) shown.items c.args.seeds.now c.args.mask i item c.item.ensures, ← c.loop-place.invariant.users, ← known)
-          c.in_ok-keep_edge.ensures.users;
-      posts = rw (next, edges_more (λ x. x.post) shown.items c.args.seeds.now c.args.mask i item c.item.ensures, ← c.loop-place.invariant.posts, ← known)
-          c.in_ok-keep_edge.ensures.posts;
-    }
+pub returns-clause-users : goal.returns-clause-users
+returns-clause-users g c =
+    c.loop-edge.invariant.users ∙ (column_whole (λ x. x.user) c.deref-edge-items.result.now c.loop-edge.edge-index c.loop-edge-test.false
+    ∙ ap users_of (c.deref-edge-items.ensures.value ∙ c.in_ok-found.ensures))
+
+pub returns-clause-posts : goal.returns-clause-posts
+returns-clause-posts g c =
+    c.loop-edge.invariant.posts ∙ (column_whole (λ x. x.post) c.deref-edge-items.result.now c.loop-edge.edge-index c.loop-edge-test.false
+    ∙ ap posts_of (c.deref-edge-items.ensures.value ∙ c.in_ok-found.ensures))

@@ -1,6 +1,7 @@
 use Rattle.std.proofs.Common.{◌-◌, ◌*◌, ◌∙◌, nat_eq, arith}
 use Rattle.std.specs.HashSet.{contains}
-use Rattle.gj_subgraph.specs.Masses.{edges_of, users_of, posts_of}
+use Rattle.gj_base.specs.Edges.{edges_of}
+use Rattle.gj_subgraph.specs.Masses.{users_of, posts_of}
 use Rattle.gj_subgraph.proofs.ListLemmas.{post_edges_same}
 use Rattle.gj_subgraph.proofs.RelaidLemmas.{names_distinct, one_step}
 use Rattle.gj_subgraph.proofs.masses.listed_units.Goals as goal

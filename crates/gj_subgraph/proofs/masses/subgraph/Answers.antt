@@ -1,6 +1,7 @@
 use Rattle.std.proofs.Common.{◌≤◌, ◌∙◌, ap, arith}
 use Rattle.gj_base.specs.Tally.{sum_of}
-use Rattle.gj_subgraph.specs.Masses.{edges_of, users_of, posts_of, masses_of}
+use Rattle.gj_base.specs.Edges.{edges_of}
+use Rattle.gj_subgraph.specs.Masses.{users_of, posts_of, masses_of}
 use Rattle.gj_subgraph.proofs.LawLemmas.{total_law}
 use Rattle.gj_subgraph.proofs.MassLemmas.{same_edges}
 use Rattle.gj_subgraph.proofs.SumLemmas.{masses_sum, masses_within}
