@@ -147,15 +147,7 @@ impl Segments {
 
     /// The vertex across by one of its ends, and a hint to that vertex where the end is laid out.
     #[inline]
-    fn end_near(
-        &self,
-        side: Side,
-        v: u32,
-        id: u64,
-        mask: Mask,
-        full: u32,
-        i: u32,
-    ) -> (u64, Hint)
+    fn end_near(&self, side: Side, v: u32, id: u64, mask: Mask, full: u32, i: u32) -> (u64, Hint)
         requires vertex { v < length (names_on self.now side) }
         requires named { slice_index (names_on self.now side) v ≡ id }
         requires full { full ≡ length (ends self.now.full side id mask) }
@@ -172,14 +164,7 @@ impl Segments {
     /// The vertex across that the word picks among the ends of the vertex with this number and this identifier, and a hint
     /// to it.
     #[inline]
-    fn pick_at(
-        &self,
-        side: Side,
-        v: u32,
-        id: u64,
-        mask: Mask,
-        word: u64,
-    ) -> (Option<u64>, Hint)
+    fn pick_at(&self, side: Side, v: u32, id: u64, mask: Mask, word: u64) -> (Option<u64>, Hint)
         requires vertex { v < length (names_on self.now side) }
         requires named { slice_index (names_on self.now side) v ≡ id }
         ensures exact { result.0 ≡ end_picked (ends (items_of self.now) side id mask) word }

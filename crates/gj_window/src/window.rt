@@ -84,9 +84,7 @@ impl Graph for Window {
 
     #[inline]
     fn pick_end(&self, side: Side, id: u64, mask: Mask, word: u64) -> Option<u64> {
-        self.segments
-            .pick_end_near(side, id, NO_HINT, mask, word)
-            .0
+        self.segments.pick_end_near(side, id, NO_HINT, mask, word).0
     }
 
     #[inline]
