@@ -1,4 +1,4 @@
-use Rattle.std.proofs.Common.{◌≡◌, ◌<◌, ◌≤◌, ◌∙◌, ◌++◌, ℕ, length, slice_get, slice_index, refl, IfSome, Some, ap, sym, subst}
+use Rattle.std.proofs.Common.{◌≡◌, ◌<◌, ◌∙◌, ◌++◌, ℕ, length, slice_index, refl, sym, subst}
 use Rattle.gj_base.specs.Ends.{ends}
 use Rattle.gj_base.specs.declared.kind.Kind.{Kind}
 use Rattle.gj_directory.specs.Directories.{ids_of}

@@ -1,6 +1,6 @@
-use Rattle.std.proofs.Common.{◌≡◌, ◌<◌, ◌≤◌, ◌+◌, ◌∙◌, ◌++◌, ℕ, length, arith, sym, ap, slice_get, Some, IfSome}
+use Rattle.std.proofs.Common.{◌≡◌, ◌∙◌, ◌++◌, ℕ, length, arith, sym, ap, slice_get, Some}
 use Rattle.gj_base.specs.Draw.{pick_of}
-use Rattle.gj_base.specs.Ends.{ends, other_side}
+use Rattle.gj_base.specs.Ends.{ends}
 use Rattle.gj_base.specs.declared.kind.Kind.{Kind}
 use Rattle.gj_base.proofs.DrawLemmas.{end_picked_none, end_picked_some}
 use Rattle.gj_base.proofs.BackLemmas.{ends_back}

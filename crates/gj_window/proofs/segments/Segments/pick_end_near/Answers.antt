@@ -1,4 +1,4 @@
-use Rattle.std.proofs.Common.{◌≡◌, sym}
+use Rattle.std.proofs.Common.{sym}
 use Rattle.gj_base.proofs.DrawLemmas.{end_picked_none}
 use Rattle.gj_window.proofs.FieldLemmas.{none_at}
 use Rattle.gj_window.proofs.segments.Segments.pick_end_near.Goals as goal
