@@ -1,10 +1,12 @@
 -- What a directory tells.
-use Rattle.std.proofs.Common.{◌≡◌, ℕ, ◌-◌, ◌<◌, ◌≤◌, ◌∙◌, List, [], ◌∷◌, ◌++◌, length, map, take, drop, filter, count_by, get_or, slice_get, Option, Some, None, IfSome, refl, arith, sym, subst, ap}
+use Rattle.std.proofs.Common.{◌≡◌, ℕ, ◌-◌, ◌<◌, ◌≤◌, ◌∙◌, List, [], ◌∷◌, ◌++◌, length, map, take, drop, filter, count_by, get_or, slice_get, Option, Some, None, IfSome, inl, inr, refl, arith, sym, subst, ap}
 use Rattle.std.specs.Prelude.{All}
 use Rattle.std.proofs.lemmas.List.{length-map, length-take, length-drop, get_or-map}
 use Rattle.std.proofs.lemmas.List.Elements.{All-get_or, All-same, All-drop, All-push}
-use Rattle.std.proofs.lemmas.List.Sums.{count_by-le-length}
+use Rattle.std.proofs.lemmas.List.Sums.{count_by-le-length, length-filter}
+use Rattle.std.proofs.lemmas.Option.{slice_get_cases}
 use Rattle.gj_base.specs.declared.item.Item.{Item}
+use Rattle.gj_base.specs.declared.kind.Kind.{Kind}
 use Rattle.gj_base.specs.declared.mask.Mask.{Mask}
 use Rattle.gj_base.specs.declared.side.Side.{Side}
 use Rattle.gj_base.specs.declared.side.Side.TheVariants.{User, Post}
@@ -84,6 +86,30 @@ pub far_known : (d : Inside) (side : Side) (v i : ℕ) (mask : Mask) (e : End) �
     → e.vertex < length (far_half d side).names.ids
 far_known d User v i mask e is below inside here = end_known d.users.names d.posts.names.ids d.users.lane User (take d.full d.edges.items) (drop d.full d.edges.items) v i mask e is.users is.posts.known_full below inside here
 far_known d Post v i mask e is below inside here = end_known d.posts.names d.users.names.ids d.posts.lane Post (take d.full d.edges.items) (drop d.full d.edges.items) v i mask e is.posts is.users.known_full below inside here
+
+-- what stands at an index of which something is told
+pub told_in : {X : Type 0} (xs : List X) (i : ℕ) (P : X → Type 0) → i < length xs → IfSome (slice_get xs i) P → (x : X) × (slice_get xs i ≡ Some x) × P x
+told_in {X} xs i P below is = elim (slice_get_cases xs i).1 [
+  | inl held ↦ (held.0, held.2, subst (λ (found : Option X). IfSome found P) held.2 is)
+  | inr past ↦ absurd (omega (arith, past.0, below))
+]
+
+-- the vertex that was read of an end is known, and the end leads to it
+pub vertex_told : (d : Inside) (shown : Directed) (own : Half) (side : Side) (v i place : ℕ) (mask : Mask) → IsDirectory d → directed_of d ≡ shown → own ≡ own_half d side
+    → v < length (ids_of shown side) → i < length (ends shown.full side (get_or (ids_of shown side) v 0) mask)
+    → IfSome (slice_get (filter (lets_through mask) (run_of own.lane.runs v)) i) (λ (e : End). place ≡ e.vertex)
+    → (place < length (far_half d side).names.ids)
+    × IfSome (slice_get (ends shown.full side (get_or (ids_of shown side) v 0) mask) i) (λ (end : ℕ × Kind). get_or (far_half d side).names.ids place 0 ≡ end.0)
+vertex_told d shown own side v i place mask is view half known below read =
+    let run = run_of (own_half d side).lane.runs v in
+    let Led : End → Type 0 = λ (e : End). place ≡ e.vertex in
+    let named : v < length (own_half d side).names.ids = omega (arith, known, ap length (own_ids d shown side view)) in
+    let inside : i < count_by (lets_through mask) run = omega (arith, below, count_told d shown side v mask is view known) in
+    let here : IfSome (slice_get (filter (lets_through mask) run) i) Led = rw half at read in
+    let e = told_in (filter (lets_through mask) run) i Led (omega (arith, inside, length-filter (lets_through mask) run)) here in (
+      omega (arith, far_known d side v i mask e.0 is named inside e.1, e.2),
+      rw (end_told d shown side v i mask e.0 is view known e.1) (ap (λ (n : ℕ). get_or (far_half d side).names.ids n 0) e.2),
+    )
 
 absent_own : (d : Inside) (side : Side) (id : ℕ) (mask : Mask) → IsDirectory d → place_of (own_half d side).names.ids id ≡ None
     → (ends (directed_of d).full side id mask ≡ []) × (ends (directed_of d).fresh side id mask ≡ [])

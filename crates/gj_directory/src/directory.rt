@@ -12,8 +12,8 @@ ghost use Rattle.gj_directory.specs.Directories.{held, ids_of};
 use crate::half::Half;
 use crate::parts::between;
 use crate::picking::{marks_of, pick_marked};
-use crate::reads::{count_in, end_in, half_of, total_in};
-use gj_base::{Item, Kind, Mask, Memory, Side};
+use crate::reads::{count_in, end_in, half_of, total_in, vertex_in};
+use gj_base::{Hint, Item, Kind, Mask, Memory, Side};
 use gj_compact::{Counts, Edge, NO_COUNTS};
 use std::alloc::Global;
 use std::collections::VecDeque;
@@ -145,6 +145,18 @@ impl Directory {
         half_of(side, &self.users, &self.posts).names.find(id)
     }
 
+    /// The same, where the hint's place is looked at first.
+    #[inline]
+    pub fn find_near(&self, side: Side, id: u64, hint: Hint) -> Option<u32>
+        ensures exact { result ≡ place_of (ids_of self.now side) id }
+        ensures held { IfSome result (λ v. (v < length (ids_of self.now side)) × (slice_index (ids_of self.now side) v ≡ id)) }
+        ensures absent { result ≡ None → (mask : Mask) → (ends self.now.full side id mask ≡ []) × (ends self.now.fresh side id mask ≡ []) }
+    {
+        half_of(side, &self.users, &self.posts)
+            .names
+            .find_near(id, hint.place)
+    }
+
     /// How many ends the vertex has under the mask among the interactions that are laid out, and how many of all kinds and
     /// moments among the others.
     #[inline]
@@ -169,6 +181,18 @@ impl Directory {
         let end = end_in(&half_of(side, &self.users, &self.posts).lane, v, mask, i);
         let far = half_of(side, &self.posts, &self.users);
         (far.names.id_of(end.vertex), end.kind)
+    }
+
+    /// The vertex across from it by this end, and a hint that finds that vertex at once.
+    #[inline]
+    pub fn end_near(&self, side: Side, v: u32, mask: Mask, i: u32) -> (u64, Hint)
+        requires vertex { v < length (ids_of self.now side) }
+        requires index { i < length (ends self.now.full side (slice_index (ids_of self.now side) v) mask) }
+        ensures { IfSome (slice_get (ends self.now.full side (slice_index (ids_of self.now side) v) mask) i) (λ end. result.0 ≡ end.0) }
+    {
+        let place = vertex_in(&half_of(side, &self.users, &self.posts).lane, v, mask, i);
+        let far = half_of(side, &self.posts, &self.users);
+        (far.names.id_of(place), Hint { place })
     }
 
     /// Puts an interaction behind the others.

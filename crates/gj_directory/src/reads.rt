@@ -1,5 +1,5 @@
 //! What is read of the sides and of the interactions.
-ghost use Rattle.std.specs.Prelude.{◌≡◌, ◌<◌, ◌≤◌, Some, length, map, filter, count_by, slice_get};
+ghost use Rattle.std.specs.Prelude.{◌≡◌, ◌<◌, ◌≤◌, IfSome, Some, length, map, filter, count_by, slice_get};
 ghost use Rattle.gj_base.specs.Ends.{passes};
 ghost use Rattle.gj_compact.specs.Blocks.{lets_through};
 ghost use Rattle.gj_compact.specs.Lanes.{run_of};
@@ -45,6 +45,19 @@ pub fn end_in(lane: &Lane, v: u32, mask: Mask, i: u32) -> End
         return lane.get(v, i);
     }
     lane.nth(v, mask, i)
+}
+
+/// The vertex of this end. Over all kinds and moments nothing else of it is read.
+#[inline]
+pub fn vertex_in(lane: &Lane, v: u32, mask: Mask, i: u32) -> u32
+    requires vertex { v < length lane.now.runs }
+    requires index { i < count_by (lets_through mask) (run_of lane.now.runs v) }
+    ensures { IfSome (slice_get (filter (lets_through mask) (run_of lane.now.runs v)) i) (λ end. result ≡ end.vertex) }
+{
+    if mask == Mask::all() {
+        return lane.vertex(v, i);
+    }
+    lane.nth(v, mask, i).vertex
 }
 
 /// How many of the interactions the mask lets through.

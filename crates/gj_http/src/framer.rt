@@ -125,7 +125,7 @@ impl Framer {
         }
     }
 
-    /// Only empty lines are held, so that no message is cut short where the bytes end.
+    /// Whether nothing but empty lines is held. Then no message is cut short where the bytes end.
     pub fn is_between(&self) -> bool
         ensures { IsTrue result ↔ IsBetween self.now.bytes }
     {

@@ -79,6 +79,19 @@ impl Names {
         }
     }
 
+    /// The same, where the place is looked at first.
+    #[inline]
+    pub fn find_near(&self, id: u64, place: u32) -> Option<u32>
+        ensures exact { result ≡ place_of self.now.ids id }
+        ensures in_range { IfSome result (λ n. n < length self.now.ids) }
+        ensures lawful { IsNamed self.now }
+    {
+        if (place as usize) < self.ids.len() && self.ids[place as usize] == id {
+            return Some(place);
+        }
+        self.find(id)
+    }
+
     /// The identifier at the place `n`.
     #[inline]
     pub fn id_of(&self, n: u32) -> u64

@@ -32,9 +32,18 @@ fn identifiers_of_one_first_slot_are_told_apart(rt: HostRuntime) -> Result<(), F
     }
     assert_eq!(rt; (names.len(), names.spare()), (8, 0));
     for (place, id) in SHARING.iter().enumerate() {
-        assert_eq!(rt; names.find(*id), Some(place as u32), "find {id}");
+        let place = place as u32;
+        assert_eq!(rt; names.find(*id), Some(place), "find {id}");
+        for near in [place, 0, 8, u32::MAX] {
+            assert_eq!(rt;
+                names.find_near(*id, near),
+                Some(place),
+                "find {id} near {near}"
+            );
+        }
     }
     assert_eq!(rt; (first_slot(60, 144), names.find(144)), (15, None));
+    assert_eq!(rt; names.find_near(144, 0), None);
     Ok(())
 }
 

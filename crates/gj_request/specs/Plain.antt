@@ -30,6 +30,7 @@ abbrev pub IsBatch : List Interaction → ℕ → ℕ → Ask → Type 0
 IsBatch items producer number ask =
     (1 ≤ length items) × (length items ≤ 4096) × (producer ≤ 1024) × (number ≤ 281474976710656) × (batch_ask items producer number ≡ Ok ask)
 
+-- the parts are a whole batch: its items are there, and a producer and a number that aren't are 0
 abbrev pub IsWhole : BatchParts → Ask → Type 0
 IsWhole parts ask = (items : List Interaction) × (parts.items ≡ Some items) × IsBatch items (unwrap_or parts.producer 0) (unwrap_or parts.number 0) ask
 

@@ -7,31 +7,37 @@ ghost use Rattle.gj_similar.specs.declared.state.State.TheVariants.{Post};
 ghost use Rattle.gj_similar.specs.Similar.{step_of, shared_first, co_visited, shared_of, AreScorable};
 
 use crate::state::State;
-use gj_base::{Graph, Memory, Side, SimAsk, Tally};
+use gj_base::{Graph, Hint, Memory, NO_HINT, Side, SimAsk, Tally};
 use rand_core::utils::NextWord;
 use std::alloc::Global;
 
 /// How often each other post was shared.
 pub type Shared = Tally;
 
-/// The post that a step shares, where it shares one, and the next state.
+/// The post that a step shares, where it shares one, the next state, and a hint to where it stands.
 #[tactic(auto, unfolding(crate::specs::Similar::step_of))]
-fn step<G: Graph>(graph: &G, ask: &SimAsk, word: u64, state: State) -> (Option<u64>, State)
-    ensures exact { result ≡ step_of (G.shown graph.now).items ask.now word state }
+fn step<G: Graph>(
+    graph: &G,
+    ask: &SimAsk,
+    word: u64,
+    state: State,
+    hint: Hint,
+) -> (Option<u64>, State, Hint)
+    ensures exact { (result.0, result.1) ≡ step_of (G.shown graph.now).items ask.now word state }
     ensures back { IfSome result.0 (λ post. 0 < length (ends (G.shown graph.now).items Side.Post post ask.now.mask)) }
 {
     match state {
-        State::Post => match graph.pick_end(Side::Post, ask.post, ask.mask, word) {
-            None => (None, State::Post),
-            Some(user) => (None, State::User(user)),
+        State::Post => match graph.pick_end_near(Side::Post, ask.post, hint, ask.mask, word) {
+            (None, _) => (None, State::Post, NO_HINT),
+            (Some(user), near) => (None, State::User(user), near),
         },
-        State::User(user) => match graph.pick_end(Side::User, user, ask.mask, word) {
-            None => (None, State::Post),
-            Some(other) => {
+        State::User(user) => match graph.pick_end_near(Side::User, user, hint, ask.mask, word) {
+            (None, _) => (None, State::Post, NO_HINT),
+            (Some(other), _) => {
                 if other == ask.post {
-                    (None, State::Post)
+                    (None, State::Post, NO_HINT)
                 } else {
-                    (Some(other), State::Post)
+                    (Some(other), State::Post, NO_HINT)
                 }
             }
         },
@@ -66,11 +72,13 @@ fn shared_posts<G: Graph, R: NextWord<u64>>(
         return Err(Memory);
     }
     let mut state = State::Post;
+    let mut hint = NO_HINT;
     for _ in 0..ask.steps {
         let word = generator.next_word();
-        let (shared, next) = step(graph, ask, word, state);
+        let (shared, next, near) = step(graph, ask, word, state, hint);
         note(&mut posts, shared)?;
         state = next;
+        hint = near;
     }
     Ok(posts)
 }

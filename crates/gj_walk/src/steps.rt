@@ -6,7 +6,7 @@ ghost use Rattle.gj_walk.specs.Walk.{step_of, visit_first, walked, visits_of};
 ghost use Rattle.gj_walk.specs.declared.state.State.TheVariants.{Seed};
 
 use crate::state::State;
-use gj_base::{Graph, Memory, Side, Tally, WalkAsk, pick, resets};
+use gj_base::{Graph, Hint, Memory, NO_HINT, Side, Tally, WalkAsk, pick, resets};
 use rand_core::utils::NextWord;
 use std::alloc::Global;
 
@@ -21,24 +21,30 @@ fn seed_user(ask: &WalkAsk, word: u64) -> u64
     seeds[pick(word, seeds.len() as u64) as usize]
 }
 
-/// The post that a step visits, where it visits one, and the next state.
+/// The post that a step visits, where it visits one, the next state, and a hint to where it stands.
 #[tactic(auto, unfolding(crate::specs::Walk::step_of))]
-fn step<G: Graph>(graph: &G, ask: &WalkAsk, word: u64, state: State) -> (Option<u64>, State)
-    ensures { result ≡ step_of (G.shown graph.now).items ask.now word state }
+fn step<G: Graph>(
+    graph: &G,
+    ask: &WalkAsk,
+    word: u64,
+    state: State,
+    hint: Hint,
+) -> (Option<u64>, State, Hint)
+    ensures { (result.0, result.1) ≡ step_of (G.shown graph.now).items ask.now word state }
 {
     match state {
-        State::Seed => (None, State::User(seed_user(ask, word))),
-        State::User(user) => match graph.pick_end(Side::User, user, ask.mask, word) {
-            None => (None, State::Seed),
-            Some(post) => (Some(post), State::Post(post)),
+        State::Seed => (None, State::User(seed_user(ask, word)), NO_HINT),
+        State::User(user) => match graph.pick_end_near(Side::User, user, hint, ask.mask, word) {
+            (None, _) => (None, State::Seed, NO_HINT),
+            (Some(post), near) => (Some(post), State::Post(post), near),
         },
-        State::Post(post) => match graph.pick_end(Side::Post, post, ask.mask, word) {
-            None => (None, State::Seed),
-            Some(user) => {
+        State::Post(post) => match graph.pick_end_near(Side::Post, post, hint, ask.mask, word) {
+            (None, _) => (None, State::Seed, NO_HINT),
+            (Some(user), near) => {
                 if resets(word, ask.reset) {
-                    (None, State::Seed)
+                    (None, State::Seed, NO_HINT)
                 } else {
-                    (None, State::User(user))
+                    (None, State::User(user), near)
                 }
             }
         },
@@ -61,11 +67,13 @@ fn visited_posts<G: Graph, R: NextWord<u64>>(
         return Err(Memory);
     }
     let mut state = State::Seed;
+    let mut hint = NO_HINT;
     for _ in 0..ask.steps {
         let word = generator.next_word();
-        let (visited, next) = step(graph, ask, word, state);
+        let (visited, next, near) = step(graph, ask, word, state, hint);
         note(&mut posts, visited)?;
         state = next;
+        hint = near;
     }
     Ok(posts)
 }

@@ -7,7 +7,7 @@ ghost use Rattle.gj_base.specs.Kinds.{all_kinds};
 ghost use Rattle.gj_window.specs.Segments.{items_of, names_on};
 
 use crate::segments::Segments;
-use gj_base::{Item, Kind, Mask, Memory, SegmentView, Side, count_in, end_in, pick};
+use gj_base::{Hint, Item, Kind, Mask, Memory, NO_HINT, SegmentView, Side, count_in, end_in, pick};
 use gj_segment::PoolSegment;
 use std::alloc::Global;
 
@@ -147,33 +147,58 @@ impl Segments {
         }
     }
 
-    /// The vertex across that the word picks among the ends of the vertex with this number and this identifier.
+    /// The vertex across by one of its ends, and a hint to that vertex where the end is laid out.
     #[inline]
-    fn pick_at(&self, side: Side, v: u32, id: u64, mask: Mask, word: u64) -> Option<u64>
+    fn end_near(&self, side: Side, v: u32, id: u64, mask: Mask, full: u32, i: u32) -> (u64, Hint)
         requires vertex { v < length (names_on self.now side) }
         requires named { slice_index (names_on self.now side) v ≡ id }
-        ensures exact { result ≡ end_picked (ends (items_of self.now) side id mask) word }
-        ensures back { IfSome result (λ end. 0 < length (ends (items_of self.now) (other_side side) end mask)) }
+        requires full { full ≡ length (ends self.now.full side id mask) }
+        requires index { i < length (ends (items_of self.now) side id mask) }
+        ensures { IfSome (slice_get (ends (items_of self.now) side id mask) i) (λ end. result.0 ≡ end.0) }
+    {
+        if i < full {
+            self.directory.end_near(side, v, mask, i)
+        } else {
+            (self.end_pooled(side, id, mask, i - full).0, NO_HINT)
+        }
+    }
+
+    /// The vertex across that the word picks among the ends of the vertex with this number and this identifier, and a hint
+    /// to it.
+    #[inline]
+    fn pick_at(&self, side: Side, v: u32, id: u64, mask: Mask, word: u64) -> (Option<u64>, Hint)
+        requires vertex { v < length (names_on self.now side) }
+        requires named { slice_index (names_on self.now side) v ≡ id }
+        ensures exact { result.0 ≡ end_picked (ends (items_of self.now) side id mask) word }
+        ensures back { IfSome result.0 (λ end. 0 < length (ends (items_of self.now) (other_side side) end mask)) }
     {
         let (full, pooled) = self.degrees(side, v, id, mask);
         let degree = u64::from(full + pooled);
         if degree == 0 {
-            return None;
+            return (None, NO_HINT);
         }
         let i = pick(word, degree);
-        let (end, _kind) = self.end_at(side, v, id, mask, full, i as u32);
-        Some(end)
+        let (end, hint) = self.end_near(side, v, id, mask, full, i as u32);
+        (Some(end), hint)
     }
 
-    /// The vertex across that the word picks among its ends under the mask, found by one lookup.
+    /// The vertex across that the word picks among its ends under the mask, found by one lookup, and by none where the hint
+    /// is its own; and a hint to the vertex across.
     #[inline]
-    pub fn pick_end(&self, side: Side, id: u64, mask: Mask, word: u64) -> Option<u64>
-        ensures exact { result ≡ end_picked (ends (items_of self.now) side id mask) word }
-        ensures back { IfSome result (λ end. 0 < length (ends (items_of self.now) (other_side side) end mask)) }
+    pub fn pick_end_near(
+        &self,
+        side: Side,
+        id: u64,
+        hint: Hint,
+        mask: Mask,
+        word: u64,
+    ) -> (Option<u64>, Hint)
+        ensures exact { result.0 ≡ end_picked (ends (items_of self.now) side id mask) word }
+        ensures back { IfSome result.0 (λ end. 0 < length (ends (items_of self.now) (other_side side) end mask)) }
     {
-        match self.directory.find(side, id) {
+        match self.directory.find_near(side, id, hint) {
             Some(v) => self.pick_at(side, v, id, mask, word),
-            None => None,
+            None => (None, NO_HINT),
         }
     }
 

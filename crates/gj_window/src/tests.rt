@@ -1,7 +1,7 @@
 //! The window at its turns, and beside the plain graph.
 
 use crate::Window;
-use gj_base::{Conf, Graph, Grow, Item, Kind, ListGraph, Mask, Memory, Side};
+use gj_base::{Conf, Graph, Grow, Hint, Item, Kind, ListGraph, Mask, Memory, NO_HINT, Side};
 use std::alloc::Global;
 use std::process::Abort;
 use std::test::Fail;
@@ -143,10 +143,13 @@ fn same_ends<A: Graph, B: Graph>(
         assert_eq!(rt; other.edge(side, id, mask, i), one.edge(side, id, mask, i));
     }
     for word in [0, 1 << 63, u64::MAX] {
-        assert_eq!(rt;
-            other.pick_end(side, id, mask, word),
-            one.pick_end(side, id, mask, word)
-        );
+        let picked = one.pick_end(side, id, mask, word);
+        assert_eq!(rt; other.pick_end(side, id, mask, word), picked);
+        // The place of the vertex, where it has one of the first, and those of others.
+        for place in [0, 1, 2, u32::MAX] {
+            let (end, _hint) = other.pick_end_near(side, id, Hint { place }, mask, word);
+            assert!(rt; end == picked, "{side:?} {id} near {place}");
+        }
     }
 }
 
@@ -250,6 +253,27 @@ fn vertices_come_once_and_never_again(rt: HostRuntime) -> Result<(), Fail> {
         assert_eq!(rt; window.count(Side::User, i, Mask::all()), 1, "{i}");
         assert_eq!(rt; window.count(Side::Post, i + 1000, Mask::all()), 1, "{i}");
         assert_eq!(rt; window.count(Side::Post, i + 967, Mask::all()), 0, "{i}");
+    }
+    Ok(())
+}
+
+/// Interaction `i` is of the user `i` modulo 4 and the post 10 more.
+#[test]
+fn an_end_that_is_laid_out_gives_the_place_of_its_vertex(rt: HostRuntime) -> Result<(), Fail> {
+    let mut window: Window = empty(&rt, rt.alloc(), 16, 2)?;
+    for i in 0..16u64 {
+        add(&rt, &mut window, i % 4, 10 + i % 4, Kind::Click, 0);
+    }
+    let all = Mask::all();
+    let pooled = window.pick_end_near(Side::User, 2, NO_HINT, all, 0);
+    assert_eq!(rt; pooled, (Some(12), NO_HINT));
+    window.compact();
+    let place = Hint { place: 2 };
+    for hint in [NO_HINT, place, Hint { place: 1 }] {
+        let there = window.pick_end_near(Side::User, 2, hint, all, 0);
+        assert_eq!(rt; there, (Some(12), place), "{hint:?}");
+        let back = window.pick_end_near(Side::Post, 12, hint, all, 0);
+        assert_eq!(rt; back, (Some(2), place), "{hint:?}");
     }
     Ok(())
 }

@@ -4,7 +4,7 @@ ghost use Rattle.gj_base.specs.History.{IsWindow};
 ghost use Rattle.gj_window.specs.Segments.{shown_from};
 
 use crate::segments::Segments;
-use gj_base::{Conf, Graph, Grow, Item, Kind, Mask, Memory, Side};
+use gj_base::{Conf, Graph, Grow, Hint, Item, Kind, Mask, Memory, NO_HINT, Side};
 use std::alloc::Global;
 
 /// The retained interactions, from the place `first` on. Each question finds its vertex by one lookup, whatever the number of
@@ -84,7 +84,19 @@ impl Graph for Window {
 
     #[inline]
     fn pick_end(&self, side: Side, id: u64, mask: Mask, word: u64) -> Option<u64> {
-        self.segments.pick_end(side, id, mask, word)
+        self.segments.pick_end_near(side, id, NO_HINT, mask, word).0
+    }
+
+    #[inline]
+    fn pick_end_near(
+        &self,
+        side: Side,
+        id: u64,
+        hint: Hint,
+        mask: Mask,
+        word: u64,
+    ) -> (Option<u64>, Hint) {
+        self.segments.pick_end_near(side, id, hint, mask, word)
     }
 
     fn edges_of(&self, alloc: Global, users: &[u64], mask: Mask) -> Result<Vec<Item>, Memory> {
