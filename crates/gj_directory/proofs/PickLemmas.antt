@@ -33,6 +33,12 @@ or_true : (b : Bool) → (b || true) ≡ true
 or_true true = refl
 or_true false = refl
 
+and_swap : (a b : Bool) → (a && b) ≡ (b && a)
+and_swap true true = refl
+and_swap true false = refl
+and_swap false true = refl
+and_swap false false = refl
+
 -- another number is not the user's
 pub not_found : (ids : List ℕ) (user v : ℕ) → HasNoRepeat ids → v < length ids → place_of ids user ≢ Some v → nat_eq user (get_or ids v 0) ≡ false
 not_found ids user v distinct below other =
@@ -96,7 +102,7 @@ marked_are ids posts users marks mask [] are known = refl
 marked_are ids posts users marks mask (x ∷ xs) are known =
     let rest = marked_are ids posts users marks mask xs are (All-tail (λ (edge : Edge). near User edge < length ids) x xs known) in
     let here = are.marked x.user (All-head (λ (edge : Edge). near User edge < length ids) x xs known) in
-    rw here (same_case (lets mask x.kind x.at && stands_in users (get_or ids x.user 0)) rest)
+    rw (here, and_swap (stands_in users (get_or ids x.user 0)) (lets mask x.kind x.at)) (same_case (lets mask x.kind x.at && stands_in users (get_or ids x.user 0)) rest)
   where
     same_case : (b : Bool) → items_of ids posts (filter (is_marked marks mask) xs) ≡ filter (λ y. passes mask y && stands_in users y.user) (items_of ids posts xs)
         → items_of ids posts (cond b (x ∷ filter (is_marked marks mask) xs) (filter (is_marked marks mask) xs))

@@ -10,6 +10,6 @@ pub record AreMarks (ids users : List ℕ) (marks : List Bool) : Type 0 where
   pub same_len : length marks ≡ length ids
   pub marked : (v : ℕ) → v < length ids → slice_index_or marks v false ≡ stands_in users (slice_index ids v)
 
--- the interaction is eligible, and the number of its user is marked
+-- the number of the interaction's user is marked, and it is eligible
 abbrev pub is_marked : List Bool → Mask → Edge → Bool
-is_marked marks mask edge = lets mask edge.kind edge.at && slice_index_or marks edge.user false
+is_marked marks mask edge = slice_index_or marks edge.user false && lets mask edge.kind edge.at

@@ -55,7 +55,8 @@ fn keep_marked(
         then picked.old.items ++ named_by users.now.ids posts.now.ids (plain edge) ∷ []
         else picked.old.items)) }
 {
-    if mask.lets(edge.kind, edge.at) && marks[edge.user as usize] {
+    // Few users are marked, so what the mask lets through is seldom asked.
+    if marks[edge.user as usize] && mask.lets(edge.kind, edge.at) {
         let item = Item {
             user: users.id_of(edge.user),
             post: posts.id_of(edge.post),
