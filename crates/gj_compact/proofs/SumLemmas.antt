@@ -96,6 +96,13 @@ counts_more counts counts' ks i k are below is more = λ other.
     let here = ap {B = ℕ} (λ (x : Kind). cond (same_kind other x) 1 0) is in
     omega (arith, more other, are other, step, here)
 
+-- the kinds of one part more
+pub counts_after : (counts counts' : Counts) (ks part : List Kind) (q p : ℕ) → q ≤ p → AreCounts counts (take q ks) → part ≡ take (p - q) (drop q ks)
+    → ((kind : Kind) → kind_count counts' kind ≡ kind_count counts kind + count_by (same_kind kind) part) → AreCounts counts' (take p ks)
+counts_after counts counts' ks part q p order are is more = λ kind.
+    let here = ap (count_by (same_kind kind)) is in
+    omega (arith, more kind, are kind, here, count_split (same_kind kind) ks q p order)
+
 pub counts_few : (counts : Counts) (ks : List Kind) (i : ℕ) (other : Kind) → AreCounts counts (take i ks) → kind_count counts other ≤ i
 counts_few counts ks i other are = omega (arith, are other, count_by-le-length (same_kind other) (take i ks), length-take i ks)
 

@@ -1,25 +1,54 @@
 //! Counts of kinds before each block of 64 cells, so that a heavy vertex is counted and searched by blocks.
 ghost use Rattle.std.specs.Prelude.{◌≡◌, ◌+◌, ◌-◌, ◌*◌, ◌<◌, ◌≤◌, length, take, drop, count_by, slice_index_or};
-ghost use Rattle.gj_base.specs.Kinds.{has_kind};
-ghost use Rattle.gj_compact.specs.Counting.{counted, none_counted};
+ghost use Rattle.gj_base.specs.declared.kind.Kind.{Kind};
+ghost use Rattle.gj_base.specs.Kinds.{has_kind, same_kind};
+ghost use Rattle.gj_compact.specs.Counting.{counted, kind_count, none_counted};
 ghost use Rattle.gj_compact.specs.Sums.{AreCounts, AreSums, IsRoom};
 
 use crate::counts::{Counts, NO_COUNTS};
 use gj_base::{Kind, Mask};
 
-/// The counts after more kinds.
-fn after(counts: Counts, kinds: &[Kind], from: usize, to: usize) -> Counts
-    requires counts { AreCounts counts (take from kinds.now) }
-    requires order { from ≤ to }
-    requires inside { to ≤ length kinds.now }
-    requires few { length kinds.now < 4294967295 }
-    ensures { AreCounts result (take to kinds.now) }
+/// How many of these kinds, at most 64, are this one. A byte counts them without a branch, so that many are compared at once.
+#[inline]
+fn count_kind(kinds: &[Kind], kind: Kind) -> u8
+    requires few { length kinds.now ≤ 64 }
+    ensures exact { result ≡ count_by (same_kind kind) kinds.now }
+    ensures in_range { result ≤ 64 }
 {
-    let mut counts = counts;
-    for i in from..to {
-        counts = counts.more(kinds[i]);
+    let mut count: u8 = 0;
+    for other in kinds {
+        count += u8::from(*other == kind);
     }
-    counts
+    count
+}
+
+/// The counts with those of these kinds, at most 64.
+#[inline]
+fn with_kinds(counts: Counts, kinds: &[Kind]) -> Counts
+    requires few { length kinds.now ≤ 64 }
+    requires fits { (kind : Kind) → kind_count counts kind < 4294967232 }
+    ensures { (kind : Kind) → kind_count result kind ≡ kind_count counts kind + count_by (same_kind kind) kinds.now }
+{
+    Counts {
+        click: counts.click + u32::from(count_kind(kinds, Kind::Click)),
+        favorite: counts.favorite + u32::from(count_kind(kinds, Kind::Favorite)),
+        retweet: counts.retweet + u32::from(count_kind(kinds, Kind::Retweet)),
+        reply: counts.reply + u32::from(count_kind(kinds, Kind::Reply)),
+        tweet: counts.tweet + u32::from(count_kind(kinds, Kind::Tweet)),
+    }
+}
+
+/// The counts after one more block. Where it is a whole one, its length stands in the code.
+fn after(counts: Counts, kinds: &[Kind], block: usize) -> Counts
+    requires counts { AreCounts counts (take (64 * block) kinds.now) }
+    requires few { block < 131073 }
+    ensures { AreCounts result (take (64 * (block + 1)) kinds.now) }
+{
+    let from = 64 * block;
+    if from + 64 <= kinds.len() {
+        return with_kinds(counts, &kinds[from..from + 64]);
+    }
+    with_kinds(counts, &kinds[from.min(kinds.len())..])
 }
 
 /// Counts the kinds before each block.
@@ -30,12 +59,7 @@ pub fn sum_blocks(sums: &mut [Counts], kinds: &[Kind])
     let mut counts = NO_COUNTS;
     for b in 0..sums.len() {
         sums[b] = counts;
-        counts = after(
-            counts,
-            kinds,
-            kinds.len().min(64 * b),
-            kinds.len().min(64 * b + 64),
-        );
+        counts = after(counts, kinds, b);
     }
 }
 

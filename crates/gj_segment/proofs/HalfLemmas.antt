@@ -4,14 +4,14 @@ use Rattle.std.proofs.lemmas.Bool.{cases_eq, cases_lt}
 use Rattle.std.proofs.lemmas.List.{map-append, length_push, get_or_append_left, get_or_push, length-replicate, get_or-replicate, same_lists, length-map, get_or-map}
 use Rattle.gj_base.specs.Firsts.{firsts, place_of, with_id}
 use Rattle.gj_base.proofs.FirstLemmas.{place_of-Some, get_or-with_id, length-with_id, firsts-push, firsts-nil, length-firsts}
-use Rattle.gj_ids.specs.Numbering.{Numbering, IsNumbering}
+use Rattle.gj_names.specs.Named.{Named, IsNamed}
 use Rattle.gj_pool.specs.Lists.{cells_of, appended}
 use Rattle.gj_pool.specs.Pools.{Pooled, total_of}
 use Rattle.gj_pool.proofs.JoinLemmas.{total-appended, total-nil, cells-appended, cells-others, length-appended}
 use Rattle.gj_segment.specs.Halves.{IsHalf, ids_of, places_from}
 use Rattle.gj_segment.proofs.PlaceLemmas.{places_none, places-same, places-other}
 
-empty_half : (ids : Numbering) (pool : Pooled) (room : ℕ) → 1 ≤ room → room ≤ 65536 → ids.ids ≡ [] → ids.room ≡ room
+empty_half : (ids : Named) (pool : Pooled) (room : ℕ) → 1 ≤ room → room ≤ 65536 → ids.ids ≡ [] → ids.room ≡ room
     → pool.lists ≡ replicate room [] → pool.edges ≡ room → IsHalf ids pool [] room
 empty_half ids pool room any fits none roomy lists edges = record {
   any = any;
@@ -27,13 +27,13 @@ empty_half ids pool room any fits none roomy lists edges = record {
   lists = λ v h. ap (λ (l : List (List ℕ)). cells_of l v) lists ∙ (get_or-replicate room v [] [] h ∙ sym (places_none 0 v));
 }
 
-pub half_empty : (ids : Numbering) (pool : Pooled) (near : List ℕ) (room : ℕ) → 1 ≤ room → room ≤ 65536 → near ≡ [] → ids.ids ≡ [] → ids.room ≡ room
+pub half_empty : (ids : Named) (pool : Pooled) (near : List ℕ) (room : ℕ) → 1 ≤ room → room ≤ 65536 → near ≡ [] → ids.ids ≡ [] → ids.room ≡ room
     → pool.lists ≡ replicate room [] → pool.edges ≡ room → IsHalf ids pool near room
 half_empty ids pool near room any fits near_is none roomy lists edges =
     subst (λ (l : List ℕ). IsHalf ids pool l room) (sym near_is) (empty_half ids pool room any fits none roomy lists edges)
 
 -- no more vertices than interactions
-pub half_few : (ids : Numbering) (pool : Pooled) (near : List ℕ) (room : ℕ) → IsHalf ids pool near room → length ids.ids ≤ length near
+pub half_few : (ids : Named) (pool : Pooled) (near : List ℕ) (room : ℕ) → IsHalf ids pool near room → length ids.ids ≤ length near
 half_few ids pool near room half =
     omega (arith, ap length half.numbering, length-firsts (ids_of ids.ids near), length-map near (λ (n : ℕ). get_or ids.ids n 0))
 
@@ -47,9 +47,9 @@ ids-same ids id near known =
     get_or-map (λ (n : ℕ). get_or (with_id ids id) n 0) near k 0 d h'
     ∙ (get_or-with_id ids id (get_or near k 0) (known k h') ∙ sym (get_or-map (λ (n : ℕ). get_or ids n 0) near k 0 d h')))
 
-pub half_added : (ids ids' : Numbering) (pool pool' : Pooled) (near near' : List ℕ) (room id r place : ℕ) → IsHalf ids pool near room
+pub half_added : (ids ids' : Named) (pool pool' : Pooled) (near near' : List ℕ) (room id r place : ℕ) → IsHalf ids pool near room
     → length near < room → place ≡ length near → near' ≡ near ++ r ∷ [] → ids'.ids ≡ with_id ids.ids id → place_of ids'.ids id ≡ Some r → r < length ids'.ids
-    → ids'.room ≡ ids.room → IsNumbering ids' → pool' ≡ record pool { lists = appended pool.lists r place } → IsHalf ids' pool' near' room
+    → ids'.room ≡ ids.room → IsNamed ids' → pool' ≡ record pool { lists = appended pool.lists r place } → IsHalf ids' pool' near' room
 half_added ids ids' pool pool' near near' room id r place half spare place_is near_is ids_are found below roomy lawful pool_is =
     let lists_are : pool'.lists ≡ appended pool.lists r place = ap (λ (p : Pooled). p.lists) pool_is in
     let edges_are : pool'.edges ≡ pool.edges = ap (λ (p : Pooled). p.edges) pool_is in

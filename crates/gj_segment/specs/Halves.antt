@@ -1,7 +1,7 @@
 -- One side of a segment: which vertex each place has, and where the places of each vertex are kept.
 use Rattle.std.specs.Prelude.{◌≡◌, ℕ, ◌+◌, ◌<◌, ◌≤◌, ◌==◌, List, [], ◌∷◌, length, map, slice_index_or, if◌then◌else◌}
 use Rattle.gj_base.specs.Firsts.{firsts, HasNoRepeat}
-use Rattle.gj_ids.specs.Numbering.{Numbering}
+use Rattle.gj_names.specs.Named.{Named}
 use Rattle.gj_pool.specs.Lists.{cells_of}
 use Rattle.gj_pool.specs.Pools.{Pooled, total_of}
 
@@ -15,7 +15,7 @@ abbrev pub ids_of : List ℕ → List ℕ → List ℕ
 ids_of ids near = map (λ n. slice_index_or ids n 0) near
 
 -- the map numbers the identifiers by their first appearance, and the pool has the places of each vertex
-pub record IsHalf (ids : Numbering) (pool : Pooled) (near : List ℕ) (room : ℕ) : Type 0 where
+pub record IsHalf (ids : Named) (pool : Pooled) (near : List ℕ) (room : ℕ) : Type 0 where
   pub any : 1 ≤ room
   pub fits : room ≤ 65536
   pub few : length near ≤ room

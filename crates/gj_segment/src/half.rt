@@ -1,19 +1,19 @@
 //! One side of a segment.
 ghost use Rattle.std.specs.Prelude.{◌≡◌, ◌<◌, ◌≤◌, [], IfOk, Some, None, length, replicate};
 ghost use Rattle.gj_base.specs.Firsts.{place_of, with_id};
-ghost use Rattle.gj_ids.specs.Numbering.{IsNumbering};
+ghost use Rattle.gj_names.specs.Named.{IsNamed};
 ghost use Rattle.gj_pool.specs.Lists.{appended};
 ghost use Rattle.gj_pool.specs.Pools.{left_of};
 
 use gj_base::Memory;
-use gj_ids::IdMap;
+use gj_names::Names;
 use gj_pool::EdgePool;
 use std::alloc::Global;
 
 /// The vertices of one side, and the places of the interactions of each.
 #[derive(Drop)]
 pub struct Half {
-    pub ids: IdMap,
+    pub ids: Names,
     pub places: EdgePool,
 }
 
@@ -27,7 +27,7 @@ impl Half {
         ensures lists { IfOk result (λ half. half.places.lists ≡ replicate room []) }
         ensures edges { IfOk result (λ half. half.places.edges ≡ room) }
     {
-        let ids = IdMap::new(alloc, room)?;
+        let ids = Names::new(alloc, room)?;
         let places = EdgePool::new(alloc, room, room)?;
         Ok(Half { ids, places })
     }
@@ -41,7 +41,7 @@ impl Half {
         ensures number { place_of self.new.ids.ids id ≡ Some result }
         ensures in_range { result < length self.new.ids.ids }
         ensures room { self.new.ids.room ≡ self.old.ids.room }
-        ensures lawful { IsNumbering self.new.ids }
+        ensures lawful { IsNamed self.new.ids }
         ensures places { self.new.places ≡ record self.old.places { lists = appended self.old.places.lists result place } }
     {
         let v = self.ids.put(id);
