@@ -9,6 +9,6 @@ use Rattle.gj_base.specs.Ends.{passes}
 abbrev pub stands_in : List ℕ → ℕ → Bool
 stands_in ids v = list_any (λ id. id == v) ids
 
--- the edges of the subgraph: the eligible interactions whose user is a seed, in the window's order
+-- the eligible interactions whose user stands among these, in the window's order
 unfoldable pub edges_of : List Item → List ℕ → Mask → List Item
-edges_of items seeds mask = filter (λ x. passes mask x && stands_in seeds x.user) items
+edges_of items users mask = filter (λ x. passes mask x && stands_in users x.user) items
