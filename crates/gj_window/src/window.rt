@@ -98,6 +98,11 @@ impl Graph for Window {
     ) -> (Option<u64>, Hint) {
         self.segments.pick_end_near(side, id, hint, mask, word)
     }
+
+    #[inline]
+    fn has_end(&self, side: Side, id: u64, mask: Mask, other: u64) -> bool {
+        self.segments.has_end(side, id, mask, other)
+    }
 }
 
 impl Grow for Window {
