@@ -1,5 +1,5 @@
 -- Whether the ends of a vertex over two parts of a list lead to another.
-use Rattle.std.proofs.Common.{◌≡◌, ℕ, ◌∙◌, ◌||◌, Bool, true, false, nat_eq, List, [], ◌∷◌, ◌++◌, length, slice_index, ap, sym, refl, arith}
+use Rattle.std.proofs.Common.{◌≡◌, ℕ, ◌∙◌, ◌||◌, Bool, true, false, nat_eq, List, [], ◌∷◌, ◌++◌, length, slice_index, ap, refl, arith}
 use Rattle.std.proofs.lemmas.List.Folds.{list_any-append}
 use Rattle.gj_base.specs.declared.item.Item.{Item}
 use Rattle.gj_base.specs.declared.kind.Kind.{Kind}
@@ -8,7 +8,7 @@ use Rattle.gj_base.specs.declared.side.Side.{Side}
 use Rattle.gj_base.specs.Ends.{ends, leads_to}
 use Rattle.gj_directory.specs.Directories.{ids_of}
 use Rattle.gj_window.specs.declared.segments.Segments.TheInside.{Inside}
-use Rattle.gj_window.specs.Segments.{Segmented, seen_of, items_of, names_on}
+use Rattle.gj_window.specs.Segments.{Segmented, seen_of, names_on}
 use Rattle.gj_window.proofs.PartLemmas.{ends-append}
 use Rattle.gj_window.proofs.FieldLemmas.{name_is}
 

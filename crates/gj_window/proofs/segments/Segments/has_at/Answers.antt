@@ -1,4 +1,4 @@
-use Rattle.std.proofs.Common.{◌≡◌, ◌<◌, ◌∙◌, ◌++◌, length, sym}
+use Rattle.std.proofs.Common.{◌∙◌, ◌++◌, sym}
 use Rattle.gj_base.specs.Kinds.{all_kinds}
 use Rattle.gj_window.proofs.FieldLemmas.{below_names, fresh_count}
 use Rattle.gj_window.proofs.LeadsLemmas.{full_leads, leads_left, leads_right}
