@@ -102,7 +102,13 @@ fn proofs_are_the_seed_users_of_a_post(rt: HostRuntime) {
         (MANY, 20, Mask::all(), 2, &[2, 4]),
         (MANY, 40, Mask::all(), 10, &[2]),
         (MANY, 50, Mask::all(), 10, &[]),
-        (&[18, 17, 16, 15, 4, 14, 13, 12, 11], 20, Mask::all(), 10, &[4]),
+        (
+            &[18, 17, 16, 15, 4, 14, 13, 12, 11],
+            20,
+            Mask::all(),
+            10,
+            &[4],
+        ),
     ];
     for (seeds, post, mask, most, expected) in cases {
         let seeds = ids_of(&rt, seeds);
