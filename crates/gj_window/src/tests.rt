@@ -164,7 +164,10 @@ fn same_across<A: Graph, B: Graph>(
 ) {
     for end in IDS {
         let has = one.has_end(side, id, mask, end);
-        assert!(rt; other.has_end(side, id, mask, end) == has, "{side:?} {id} to {end} {mask:?}");
+        assert!(rt;
+            other.has_end(side, id, mask, end) == has,
+            "{side:?} {id} to {end} {mask:?}"
+        );
     }
 }
 
@@ -306,8 +309,14 @@ fn an_end_is_found_in_either_form(rt: HostRuntime) -> Result<(), Fail> {
     ] {
         for (i, has) in posts.iter().enumerate() {
             let post = 10 + i as u64;
-            assert!(rt; window.has_end(Side::User, 1, mask, post) == *has, "{post} {mask:?}");
-            assert!(rt; window.has_end(Side::Post, post, mask, 1) == *has, "{post} {mask:?}");
+            assert!(rt;
+                window.has_end(Side::User, 1, mask, post) == *has,
+                "{post} {mask:?}"
+            );
+            assert!(rt;
+                window.has_end(Side::Post, post, mask, 1) == *has,
+                "{post} {mask:?}"
+            );
         }
     }
     Ok(())
