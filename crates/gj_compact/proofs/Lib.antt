@@ -5,6 +5,7 @@ pub mod LaneLemmas
 pub mod NoteLemmas
 pub mod OpenLemmas
 pub mod PullLemmas
+pub mod ReachLemmas
 pub mod RowLemmas
 pub mod SpanLemmas
 pub mod SumLemmas

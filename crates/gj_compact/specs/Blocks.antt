@@ -1,5 +1,5 @@
 -- Blocks of 64 of the ends of a vertex.
-use Rattle.std.specs.Prelude.{ℕ, ◌-◌, ◌*◌, ◌<◌, ◌≤◌, Bool, List, length, map, take, drop, slice_index}
+use Rattle.std.specs.Prelude.{ℕ, ◌-◌, ◌*◌, ◌<◌, ◌≤◌, ◌==◌, ◌&&◌, Bool, List, length, map, take, drop, slice_index}
 use Rattle.std.specs.List.{Contains}
 use Rattle.gj_base.specs.declared.kind.Kind.{Kind}
 use Rattle.gj_base.specs.declared.mask.Mask.{Mask}
@@ -28,3 +28,7 @@ lets_through mask end = lets mask end.kind end.at
 -- the moments of some of the ends, from one index up to another
 abbrev pub moments_between : ℕ → ℕ → List End → List ℕ
 moments_between from to ends = map (λ (end : End). end.at) (take (to - from) (drop from ends))
+
+-- the end leads to the vertex, and the mask lets it through
+abbrev pub reaches : ℕ → Mask → End → Bool
+reaches vertex mask end = (end.vertex == vertex) && lets_through mask end

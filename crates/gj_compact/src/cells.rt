@@ -1,6 +1,7 @@
 //! Ends in columns: a walk reads the vertices alone, and most queries no moment.
 ghost use Rattle.std.specs.Prelude.{◌≡◌, ◌+◌, ◌-◌, ◌*◌, ◌/◌, ◌<◌, ◌≤◌, IfOk, IfSome, Some, ℕ, [], ◌++◌, replicate, length, take, drop, count_by, filter, slice_get, slice_set, vec_capacity};
-ghost use Rattle.gj_compact.specs.Blocks.{lets_through, moments_between, AreBounds};
+ghost use Rattle.std.specs.List.{list_any};
+ghost use Rattle.gj_compact.specs.Blocks.{lets_through, reaches, moments_between, AreBounds};
 ghost use Rattle.gj_compact.specs.Cells.{Celled, with_end};
 
 use crate::counts::{Counts, NO_COUNTS};
@@ -340,6 +341,29 @@ impl Cells {
             greatest = greatest.max(at);
         }
         (least, greatest)
+    }
+
+    /// Whether one of the ends from one place up to another leads to the vertex, and the mask lets it through.
+    pub fn has(&self, from: usize, to: usize, mask: Mask, vertex: u32) -> bool
+        requires order { from ≤ to }
+        requires inside { to ≤ length self.now.ends }
+        ensures { result ≡ list_any (reaches vertex mask) (take (to - from) (drop from self.now.ends)) }
+    {
+        for i in from..to {
+            if self.reaches_at(i, mask, vertex) {
+                return true;
+            }
+        }
+        false
+    }
+
+    /// Whether the end at a place does. Its kind and its moment are looked at only where the vertex is this one.
+    #[inline]
+    fn reaches_at(&self, i: usize, mask: Mask, vertex: u32) -> bool
+        requires { i < length self.now.ends }
+        ensures { IfSome (slice_get self.now.ends i) (λ end. result ≡ reaches vertex mask end) }
+    {
+        self.vertex(i) == vertex && self.lets_at(i, mask)
     }
 
     /// Puts the end at a place.

@@ -1,7 +1,8 @@
 //! The ends of each vertex of one side, contiguous and oldest first.
 ghost use Rattle.std.specs.Prelude.{◌≡◌, ◌+◌, ◌-◌, ◌<◌, ◌≤◌, [], ◌++◌, IfOk, IfSome, replicate, length, slice_get, slice_index_or, Some, vec_capacity};
 ghost use Rattle.std.specs.Prelude.{ℕ, List, map, filter, take, drop, count_by, sum_by};
-ghost use Rattle.gj_compact.specs.Blocks.{lets_through, moments_between, AreBounds};
+ghost use Rattle.std.specs.List.{list_any};
+ghost use Rattle.gj_compact.specs.Blocks.{lets_through, reaches, moments_between, AreBounds};
 ghost use Rattle.gj_compact.specs.declared.lane.Row.{Row};
 ghost use Rattle.gj_compact.specs.Lanes.{run_of, pushed, popped, noted, opened, emptied, wanted, want_of, row_run, AreLaid, unused_row};
 ghost use Rattle.gj_compact.specs.Moves.{AreLow, AreReady};
@@ -240,6 +241,17 @@ impl Lane {
         let from = row.start as usize;
         self.cells
             .nth(from, from + row.len as usize, mask, i as usize)
+    }
+
+    /// Whether one of the ends leads to the vertex across, and the mask lets it through: one pass over the vertices of the
+    /// ends, and over nothing else of those that lead elsewhere.
+    pub fn has(&self, v: u32, mask: Mask, vertex: u32) -> bool
+        requires { v < length self.now.runs }
+        ensures { result ≡ list_any (reaches vertex mask) (run_of self.now.runs v) }
+    {
+        let row = row_of(&self.rows, v);
+        let from = row.start as usize;
+        self.cells.has(from, from + row.len as usize, mask, vertex)
     }
 
     /// The least and the greatest moment of the ends from one index up to another.

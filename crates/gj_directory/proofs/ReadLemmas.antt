@@ -1,6 +1,7 @@
 -- What a side tells of a vertex.
-use Rattle.std.proofs.Common.{◌≡◌, ◌≢◌, ℕ, ◌<◌, ◌∙◌, ◌&&◌, eqb, Bool, List, [], ◌∷◌, length, map, filter, count_by, get_or, slice_get, option_map, Some, None, true, false, refl, arith, sym, subst, ap, inl, inr}
+use Rattle.std.proofs.Common.{◌≡◌, ◌≢◌, ℕ, ◌<◌, ◌∙◌, ◌&&◌, ◌||◌, eqb, cond, Bool, List, [], ◌∷◌, length, map, filter, count_by, get_or, slice_get, option_map, Option, Some, None, true, false, refl, arith, sym, subst, ap, inl, inr}
 use Rattle.std.specs.Prelude.{All}
+use Rattle.std.specs.List.{list_any}
 use Rattle.std.proofs.lemmas.Bool.{cases_eq, cases_Bool, eq-eqb, ne_eqb}
 use Rattle.std.proofs.lemmas.List.{length-map}
 use Rattle.std.proofs.lemmas.List.Elements.{All-head, All-tail, All-nil, All-cons, All-same, All-filter, All-get_or}
@@ -12,16 +13,16 @@ use Rattle.gj_base.specs.declared.kind.Kind.{Kind}
 use Rattle.gj_base.specs.declared.mask.Mask.{Mask}
 use Rattle.gj_base.specs.declared.side.Side.{Side}
 use Rattle.gj_base.specs.declared.side.Side.TheVariants.{User, Post}
-use Rattle.gj_base.specs.Ends.{ends, is_eligible, end_across, vertex_on, other_side}
+use Rattle.gj_base.specs.Ends.{ends, is_eligible, end_across, vertex_on, other_side, leads_to}
 use Rattle.gj_base.specs.Firsts.{place_of, number_in, HasNoRepeat}
 use Rattle.gj_base.specs.Kinds.{all_kinds, lets}
 use Rattle.gj_base.specs.Numbered.{named_by}
 use Rattle.gj_base.proofs.EndsLemmas as base
-use Rattle.gj_base.proofs.FirstLemmas.{number_in-at, place_of-at}
+use Rattle.gj_base.proofs.FirstLemmas.{number_in-at, place_of-at, place_of-Some}
 use Rattle.gj_base.proofs.MaskedLemmas.{lets-all}
 use Rattle.gj_compact.specs.declared.edge.Edge.{Edge}
 use Rattle.gj_compact.specs.declared.edge.End.{End}
-use Rattle.gj_compact.specs.Blocks.{lets_through}
+use Rattle.gj_compact.specs.Blocks.{lets_through, reaches}
 use Rattle.gj_compact.specs.Lanes.{Laned, run_of}
 use Rattle.gj_compact.specs.Turns.{plain, near, across, ends_of}
 use Rattle.gj_compact.proofs.TurnLemmas.{ends_none, ends_yes, ends_no}
@@ -212,3 +213,54 @@ end_known names far lane side full fresh v i mask e so named below inside is =
     let here : get_or (filter (lets_through mask) run) i e ≡ e = get_or_from_slice_get (filter (lets_through mask) run) i e e is in
     let lt = All-get_or Q (filter (lets_through mask) run) i e (omega (arith, inside, length-filter (lets_through mask) run)) some in
     omega (arith, lt, ap (λ (d : End). d.vertex) here)
+
+-- one of the ends leads to the vertex with the number that was found, if one was
+abbrev pub reached : Option ℕ → Mask → List End → Bool
+reached (Some vertex) mask run = list_any (reaches vertex mask) run
+reached None mask run = false
+
+-- an identifier is the one that was found exactly where its number is
+same_named : (far : List ℕ) (other vertex w : ℕ) → HasNoRepeat far → place_of far other ≡ Some vertex → w < length far → eqb (get_or far w 0) other ≡ eqb w vertex
+same_named far other vertex w distinct found below =
+    let facts = place_of-Some far other vertex found in
+    elim (cases_eq w vertex) [
+      | inl e ↦ eq-eqb (get_or far w 0) other (ap (λ (k : ℕ). get_or far k 0) e ∙ facts.1) ∙ sym (eq-eqb w vertex e)
+      | inr ne ↦
+          let off : get_or far w 0 ≢ other = λ (q : get_or far w 0 ≡ other). (let there = place_of-at far other w distinct below q in ne (cc (found, there))) in
+          ne_eqb (get_or far w 0) other off ∙ sym (ne_eqb w vertex ne)
+    ]
+
+led_case : (b passes any : Bool) (far : List ℕ) (other : ℕ) (e : End) (run : List End) → eqb (get_or far e.vertex 0) other ≡ b → leads_to (map (name_end far) run) other ≡ any
+    → leads_to (map (name_end far) (cond passes (e ∷ run) run)) other ≡ ((b && passes) || any)
+led_case true true any far other e run is rest = rw is refl
+led_case false true any far other e run is rest = rw is rest
+led_case true false any far other e run is rest = rest
+led_case false false any far other e run is rest = rest
+
+led : (far : List ℕ) (other : ℕ) (found : Option ℕ) (mask : Mask) (run : List End) → HasNoRepeat far → found ≡ place_of far other → All (λ (e : End). e.vertex < length far) run
+    → leads_to (map (name_end far) (filter (lets_through mask) run)) other ≡ reached found mask run
+led far other (Some vertex) mask [] distinct is known = refl
+led far other None mask [] distinct is known = refl
+led far other (Some vertex) mask (e ∷ run) distinct is known =
+    let Q = λ (d : End). d.vertex < length far in
+    led_case (eqb e.vertex vertex) (lets_through mask e) (list_any (reaches vertex mask) run) far other e (filter (lets_through mask) run)
+    (same_named far other vertex e.vertex distinct (sym is) (All-head Q e run known)) (led far other (Some vertex) mask run distinct is (All-tail Q e run known))
+led far other None mask (e ∷ run) distinct is known =
+    let Q = λ (d : End). d.vertex < length far in
+    let off : get_or far e.vertex 0 ≢ other = λ (q : get_or far e.vertex 0 ≡ other). absurd (cc (is, place_of-at far other e.vertex distinct (All-head Q e run known) q)) in
+    led_case false (lets_through mask e) false far other e (filter (lets_through mask) run)
+    (ne_eqb (get_or far e.vertex 0) other off) (led far other None mask run distinct is (All-tail Q e run known))
+
+pub side_led : (names : Named) (users posts : List ℕ) (lane : Laned) (side : Side) (full fresh : List Edge) (v : ℕ) (mask : Mask) (other : ℕ) (found : Option ℕ) → names.ids ≡ ids_on side users posts
+    → IsSide names lane side full fresh → HasNoRepeat (ids_on (other_side side) users posts) → AreNamed (ids_on (other_side side) users posts) (other_side side) full
+    → v < length names.ids → found ≡ place_of (ids_on (other_side side) users posts) other
+    → leads_to (ends (items_of users posts full) side (get_or names.ids v 0) mask) other ≡ reached found mask (run_of lane.runs v)
+side_led names users posts lane side full fresh v mask other found same so apart across_named below is =
+    let ids = ids_on side users posts in
+    let far = ids_on (other_side side) users posts in
+    let distinct : HasNoRepeat ids = subst HasNoRepeat same so.distinct in
+    let named : AreNamed ids side full = subst (λ (l : List ℕ). AreNamed l side full) same so.known_full in
+    ap (λ (l : List (ℕ × Kind)). leads_to l other)
+    (ap (λ (l : List ℕ). ends (items_of users posts full) side (get_or l v 0) mask) same ∙ ends-edges users posts side v mask full distinct (omega (arith, below, ap length same)) named)
+    ∙ (led far other found mask (ends_of full side v) apart is (ends-known far side v full across_named)
+    ∙ ap (reached found mask) (sym (so.runs v (omega (arith, below, so.within)))))

@@ -10,7 +10,7 @@ use Rattle.gj_base.specs.declared.kind.Kind.{Kind}
 use Rattle.gj_base.specs.declared.mask.Mask.{Mask}
 use Rattle.gj_base.specs.declared.side.Side.{Side}
 use Rattle.gj_base.specs.declared.side.Side.TheVariants.{User, Post}
-use Rattle.gj_base.specs.Ends.{ends, passes}
+use Rattle.gj_base.specs.Ends.{ends, passes, leads_to}
 use Rattle.gj_base.specs.Firsts.{place_of}
 use Rattle.gj_base.specs.Kinds.{all_kinds}
 use Rattle.gj_base.specs.Numbered.{named_by}
@@ -27,7 +27,7 @@ use Rattle.gj_directory.specs.Showing.{directed_of, half_on, IsItem, IsDirectory
 use Rattle.gj_directory.specs.Sides.{items_of}
 use Rattle.gj_directory.proofs.CountLemmas.{passes-named}
 use Rattle.gj_directory.proofs.NameLemmas.{items_held, items-length}
-use Rattle.gj_directory.proofs.ReadLemmas.{side_count, side_notes, side_end, side_absent, end_known}
+use Rattle.gj_directory.proofs.ReadLemmas.{side_count, side_notes, side_end, side_absent, side_led, end_known, reached}
 
 -- the half of the side of a directory
 abbrev pub own_half : Inside → Side → Half
@@ -193,3 +193,22 @@ pub sane_push : (users posts users' posts' : List ℕ) (n n' : ℕ) (edges edges
 sane_push users posts users' posts' n n' edges edges' x same sane all =
     sane_from users' posts' n' edges' (All-same IsItem (items_of users' posts' edges') (items_of users posts edges ++ x ∷ []) same
     (All-push IsItem (items_of users posts edges) x (sane_of users posts n edges all) sane))
+
+led_own : (d : Inside) (side : Side) (v : ℕ) (mask : Mask) (other : ℕ) (found : Option ℕ) → IsDirectory d → v < length (own_half d side).names.ids → found ≡ place_of (far_half d side).names.ids other
+    → leads_to (ends (directed_of d).full side (get_or (ids_of (directed_of d) side) v 0) mask) other ≡ reached found mask (run_of (own_half d side).lane.runs v)
+led_own d User v mask other found is below are =
+    side_led d.users.names d.users.names.ids d.posts.names.ids d.users.lane User (take d.full d.edges.items) (drop d.full d.edges.items) v mask other found refl
+    is.users is.posts.distinct is.posts.known_full below are
+led_own d Post v mask other found is below are =
+    side_led d.posts.names d.users.names.ids d.posts.names.ids d.posts.lane Post (take d.full d.edges.items) (drop d.full d.edges.items) v mask other found refl
+    is.posts is.users.distinct is.users.known_full below are
+
+-- whether the vertex has an end that leads to another, by the other's number
+pub led_told : (d : Inside) (shown : Directed) (own far : Half) (side : Side) (v : ℕ) (mask : Mask) (other : ℕ) (found : Option ℕ) → IsDirectory d → directed_of d ≡ shown
+    → own ≡ own_half d side → far ≡ far_half d side → v < length (ids_of shown side) → found ≡ place_of far.names.ids other
+    → reached found mask (run_of own.lane.runs v) ≡ leads_to (ends shown.full side (get_or (ids_of shown side) v 0) mask) other
+led_told d shown own far side v mask other found is view half across below are =
+    let named : v < length (own_half d side).names.ids = omega (arith, below, ap length (own_ids d shown side view)) in
+    ap (λ (h : Half). reached found mask (run_of h.lane.runs v)) half
+    ∙ (sym (led_own d side v mask other found is named (are ∙ ap (λ (h : Half). place_of h.names.ids other) across))
+    ∙ ap (λ (s : Directed). leads_to (ends s.full side (get_or (ids_of s side) v 0) mask) other) view)

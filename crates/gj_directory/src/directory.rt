@@ -3,7 +3,7 @@ ghost use Rattle.std.specs.Prelude.{◌≡◌, ℕ, ◌+◌, ◌-◌, ◌<◌, �
 ghost use Rattle.std.specs.VecDeque.{deque_capacity};
 ghost use Rattle.gj_base.specs.declared.mask.Mask.{Mask};
 ghost use Rattle.gj_base.specs.Edges.{edges_of};
-ghost use Rattle.gj_base.specs.Ends.{ends, passes};
+ghost use Rattle.gj_base.specs.Ends.{ends, passes, leads_to};
 ghost use Rattle.gj_base.specs.Firsts.{place_of};
 ghost use Rattle.gj_base.specs.Kinds.{all_kinds};
 ghost use Rattle.gj_directory.specs.Counting.{AreCounts};
@@ -193,6 +193,21 @@ impl Directory {
         let place = vertex_in(&half_of(side, &self.users, &self.posts).lane, v, mask, i);
         let far = half_of(side, &self.posts, &self.users);
         (far.names.id_of(place), Hint { place })
+    }
+
+    /// Whether one of the vertex's ends under the mask among the interactions that are laid out is the other vertex: by one
+    /// lookup of its number, and one pass over the numbers at the ends.
+    #[inline]
+    pub fn has_end(&self, side: Side, v: u32, mask: Mask, other: u64) -> bool
+        requires { v < length (ids_of self.now side) }
+        ensures { result ≡ leads_to (ends self.now.full side (slice_index (ids_of self.now side) v) mask) other }
+    {
+        let own = half_of(side, &self.users, &self.posts);
+        let far = half_of(side, &self.posts, &self.users);
+        match far.names.find(other) {
+            Some(place) => own.lane.has(v, mask, place),
+            None => false,
+        }
     }
 
     /// Puts an interaction behind the others.

@@ -1,32 +1,9 @@
 -- Whether the ends of a vertex lead to another, end by end.
-use Rattle.std.proofs.Common.{◌≡◌, ℕ, zero, suc, ◌+◌, ◌∙◌, ◌-◌, ◌<◌, ◌≤◌, ◌++◌, ◌||◌, ◌&&◌, Bool, true, false, cond, nat_eq, List, [], ◌∷◌, length, take, filter, map, slice_get, Some, append_assoc, append-nil, length-append, ap, sym, refl, arith}
-use Rattle.std.proofs.lemmas.List.Folds.{list_any_more}
-use Rattle.std.proofs.lemmas.Option.{get_or_from_slice_get, slice_get_within}
-use Rattle.gj_base.specs.declared.kind.Kind.{Kind}
+use Rattle.std.proofs.Common.{◌≡◌, ℕ, zero, suc, ◌∙◌, ◌-◌, ◌<◌, ◌≤◌, ◌++◌, ◌||◌, ◌&&◌, Bool, true, false, cond, nat_eq, List, [], ◌∷◌, length, take, filter, map, append_assoc, append-nil, length-append, ap, sym, refl, arith}
 use Rattle.gj_base.specs.declared.item.Item.{Item}
 use Rattle.gj_base.specs.declared.mask.Mask.{Mask}
 use Rattle.gj_base.specs.declared.side.Side.TheVariants.{User, Post}
-use Rattle.gj_base.specs.Ends.{ends, end_across, is_eligible, passes}
-use Rattle.gj_proof.specs.Proofs.{leads_to}
-
--- one more end
-pub leads_more : (edges : List (ℕ × Kind)) (i v : ℕ) (end : ℕ × Kind) → slice_get edges i ≡ Some end
-    → leads_to (take (i + 1) edges) v ≡ (leads_to (take i edges) v || nat_eq end.0 v)
-leads_more edges i v end is =
-    let within = slice_get_within edges i end is in
-    list_any_more (λ e. nat_eq e.0 v) edges i end within
-    ∙ ap (λ (e : ℕ × Kind). leads_to (take i edges) v || nat_eq e.0 v) (get_or_from_slice_get edges i end end is)
-
--- an end that is found in a front is found in all
-pub leads_found : (edges : List (ℕ × Kind)) (i v : ℕ) (end : ℕ × Kind) → slice_get edges i ≡ Some end → nat_eq end.0 v ≡ true
-    → leads_to edges v ≡ true
-leads_found [] i v end is e = cc
-leads_found (x ∷ xs) zero v end is e = let same : x ≡ end = cc in rw (same, e) refl
-leads_found (x ∷ xs) (suc i) v end is e = rw (leads_found xs i v end is e) (or_true (nat_eq x.0 v))
-  where
-    or_true : (b : Bool) → (b || true) ≡ true
-    or_true true = refl
-    or_true false = refl
+use Rattle.gj_base.specs.Ends.{ends, end_across, is_eligible, passes, leads_to}
 
 -- a set with v put in
 pub or_added : (more was b : Bool) → more ≡ cond b true was → more ≡ (was || b)
@@ -39,10 +16,6 @@ or_added more false false e = e
 pub or_more : (more was before front b whole : Bool) → more ≡ (was || b) → was ≡ (before || front) → whole ≡ (front || b) → more ≡ (before || whole)
 or_more more was true front b whole e f g = rw f at e
 or_more more was false front b whole e f g = rw f at e ∙ sym g
-
--- neither part of a test
-pub or_none : (more front b : Bool) → more ≡ (front || b) → front ≡ false → b ≡ false → more ≡ false
-or_none more front b e f g = rw (f, g) at e
 
 leads_case : (a b p : Bool) (x : Item) (ls rs : List Item) (user post : ℕ) → nat_eq x.user user ≡ a → nat_eq x.post post ≡ b
     → leads_to (map (end_across User) ls) post ≡ leads_to (map (end_across Post) rs) user

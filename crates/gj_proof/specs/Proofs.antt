@@ -1,17 +1,11 @@
 -- Social proofs: the seed users that explain a post.
-use Rattle.std.specs.Prelude.{ℕ, ◌==◌, Bool, List, [], take, filter, fold}
+use Rattle.std.specs.Prelude.{ℕ, List, [], take, filter, fold}
 use Rattle.std.specs.Ordering.{nat_cmp}
-use Rattle.std.specs.List.{list_any}
 use Rattle.std.specs.BTreeSet.{insert_key}
-use Rattle.gj_base.specs.declared.kind.Kind.{Kind}
 use Rattle.gj_base.specs.declared.item.Item.{Item}
 use Rattle.gj_base.specs.declared.mask.Mask.{Mask}
 use Rattle.gj_base.specs.declared.side.Side.TheVariants.{Post}
-use Rattle.gj_base.specs.Ends.{ends}
-
--- one of the ends is this vertex
-abbrev pub leads_to : List (ℕ × Kind) → ℕ → Bool
-leads_to edges v = list_any (λ e. e.0 == v) edges
+use Rattle.gj_base.specs.Ends.{ends, leads_to}
 
 -- the identifiers in ascending order, each once
 abbrev pub ascending : List ℕ → List ℕ

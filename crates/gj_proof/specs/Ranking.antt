@@ -4,10 +4,10 @@ use Rattle.std.specs.List.{list_any}
 use Rattle.gj_base.specs.declared.item.Item.{Item}
 use Rattle.gj_base.specs.declared.mask.Mask.{Mask}
 use Rattle.gj_base.specs.declared.side.Side.TheVariants.{User}
-use Rattle.gj_base.specs.Ends.{ends}
+use Rattle.gj_base.specs.Ends.{ends, leads_to}
 use Rattle.gj_base.specs.Kinds.{all_kinds}
 use Rattle.gj_proof.specs.declared.ranked.Ranked.{Ranked}
-use Rattle.gj_proof.specs.Proofs.{leads_to, first_users, proof_of}
+use Rattle.gj_proof.specs.Proofs.{first_users, proof_of}
 
 -- a pair of a post and its number comes before another: its number is larger, or its post is lower at the same number
 abbrev pub comes_before : ℕ × ℕ → ℕ × ℕ → Bool

@@ -2,8 +2,7 @@
 ghost use Rattle.std.specs.Prelude.{◌≡◌, ◌||◌, ◌&&◌, ℕ, IfOk, OnOk};
 ghost use Rattle.std.specs.Prelude.{nat_eq, ◌==◌};
 ghost use Rattle.std.specs.HashSet.{contains};
-ghost use Rattle.gj_base.specs.Ends.{ends};
-ghost use Rattle.gj_proof.specs.Proofs.{leads_to};
+ghost use Rattle.gj_base.specs.Ends.{ends, leads_to};
 ghost use Rattle.gj_proof.specs.Ranking.{is_known, meets};
 
 use gj_base::{Graph, IdList, Mask, Memory, Side};
@@ -34,19 +33,6 @@ pub fn add_ends<G: Graph>(
         add(set, end)?;
     }
     Ok(())
-}
-
-/// Whether one of the ends of a vertex is this one: at most one call of the graph an end.
-pub fn has_end<G: Graph>(graph: &G, side: Side, id: u64, mask: Mask, other: u64) -> bool
-    ensures { result ≡ leads_to (ends (G.shown graph.now).items side id mask) other }
-{
-    for i in 0..graph.count(side, id, mask) {
-        let (end, _kind) = graph.edge(side, id, mask, i);
-        if end == other {
-            return true;
-        }
-    }
-    false
 }
 
 /// The posts that a seed user knows, where they are to be hidden.

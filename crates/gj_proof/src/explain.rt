@@ -2,19 +2,23 @@
 ghost use Rattle.std.specs.Prelude.{◌≡◌, ◌||◌, ℕ, nat_eq, map, IfOk};
 ghost use Rattle.std.specs.Option.{ForSome};
 ghost use Rattle.std.specs.HashSet.{contains};
-ghost use Rattle.gj_base.specs.Ends.{ends};
+ghost use Rattle.gj_base.specs.Ends.{ends, leads_to};
 ghost use Rattle.gj_base.specs.declared.side.Side.TheVariants.{Post};
-ghost use Rattle.gj_proof.specs.Proofs.{leads_to, ascending, first_users, proof_of};
+ghost use Rattle.gj_proof.specs.Proofs.{ascending, first_users, proof_of};
 ghost use Rattle.gj_proof.specs.Ranking.{explained_by, explained_of};
 
-use crate::across::{add_ends, has_end};
+use crate::across::add_ends;
 use crate::ranked::{Ranked, RankedList};
 use gj_base::{Graph, IdList, List, Mask, Memory, Side};
 use std::alloc::Global;
 use std::collections::{BTreeSet, HashSet};
 
+/// Up to so many seed users are asked for one by one, since a pass over the ends of a vertex costs much less than a set of
+/// them.
+const FEW_SEEDS: usize = 8;
+
 /// The distinct seed users that have an eligible interaction with the post, ascending: the first `most` of them. It looks
-/// at the ends of the post, or at those of the seed users where these are fewer.
+/// at the ends of the post once, or for each seed user at those of the post or of the user, whichever are fewer.
 pub fn proofs<G: Graph>(
     alloc: Global,
     graph: &G,
@@ -30,8 +34,8 @@ pub fn proofs<G: Graph>(
     proof_among(alloc, graph, &ordered, few, post, mask, most)
 }
 
-/// The same ranking, in which each post has its proof. It looks at the ends of each post, or at those of the seed users
-/// where these are fewer.
+/// The same ranking, in which each post has its proof. It looks at the ends of each post once, or for each seed user at
+/// those of the post or of the user, whichever are fewer.
 pub fn explained<G: Graph>(
     alloc: Global,
     graph: &G,
@@ -85,8 +89,12 @@ fn ascending(alloc: Global, ids: &[u64]) -> Result<BTreeSet<u64>, Memory>
     Ok(ordered)
 }
 
-/// How many ends the seed users have together: a number to choose by, of which nothing else depends.
+/// How many ends the seed users have together, or none where they are few: a number to choose by, of which nothing else
+/// depends.
 fn ends_of<G: Graph>(graph: &G, seeds: &BTreeSet<u64>, mask: Mask) -> u64 {
+    if seeds.len() <= FEW_SEEDS {
+        return 0;
+    }
     let mut ends: u64 = 0;
     for seed in seeds {
         ends = ends.saturating_add(graph.count(Side::User, *seed, mask));
@@ -94,7 +102,7 @@ fn ends_of<G: Graph>(graph: &G, seeds: &BTreeSet<u64>, mask: Mask) -> u64 {
     ends
 }
 
-/// The users at the ends of the post, unless the post has more than `few` ends.
+/// The users at the ends of the post, unless the post has `few` ends or more.
 fn users_of<G: Graph>(
     alloc: Global,
     graph: &G,
@@ -104,12 +112,23 @@ fn users_of<G: Graph>(
 ) -> Result<Option<HashSet<u64>>, Memory>
     ensures { IfOk result (λ users. ForSome users (λ set. (user : ℕ) → contains nat_eq set user ≡ leads_to (ends (G.shown graph.now).items Post post mask) user)) }
 {
-    if graph.count(Side::Post, post, mask) > few {
+    if graph.count(Side::Post, post, mask) >= few {
         return Ok(None);
     }
     let mut users = HashSet::new(alloc);
     add_ends(graph, Side::Post, post, mask, &mut users)?;
     Ok(Some(users))
+}
+
+/// Whether the seed user has an eligible interaction with the post, looked for among the fewer ends.
+fn is_between<G: Graph>(graph: &G, seed: u64, post: u64, mask: Mask) -> bool
+    ensures { result ≡ leads_to (ends (G.shown graph.now).items Post post mask) seed }
+{
+    if graph.count(Side::User, seed, mask) < graph.count(Side::Post, post, mask) {
+        graph.has_end(Side::User, seed, mask, post)
+    } else {
+        graph.has_end(Side::Post, post, mask, seed)
+    }
 }
 
 /// Whether the seed user has an eligible interaction with the post, whose users stand in the set if there is one.
@@ -125,7 +144,7 @@ fn explains<G: Graph>(
 {
     match users {
         Some(set) => set.contains(&seed),
-        None => has_end(graph, Side::User, seed, mask, post),
+        None => is_between(graph, seed, post, mask),
     }
 }
 

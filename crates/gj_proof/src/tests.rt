@@ -79,11 +79,14 @@ fn larger_numbers_come_first_then_lower_posts(rt: HostRuntime) {
     }
 }
 
+/// More seed users than are asked for one by one. They have 8 ends together.
+const MANY: &[u64] = &[9, 4, 7, 2, 5, 1, 3, 6, 8, 10];
+
 #[test]
 fn proofs_are_the_seed_users_of_a_post(rt: HostRuntime) {
     let graph = sample(&rt);
     let click = Mask::one(Kind::Click);
-    let cases: [(&[u64], u64, Mask, u32, &[u64]); 9] = [
+    let cases: [(&[u64], u64, Mask, u32, &[u64]); 15] = [
         (&[9, 4, 7, 2, 5], 20, Mask::all(), 10, &[2, 4, 5, 9]),
         (&[9, 4, 7, 2, 5], 20, click, 10, &[2, 5, 9]),
         (&[9, 4, 7, 2, 5], 20, Mask::all(), 3, &[2, 4, 5]),
@@ -93,6 +96,19 @@ fn proofs_are_the_seed_users_of_a_post(rt: HostRuntime) {
         (&[7], 20, Mask::all(), 10, &[]),
         (&[2, 9], 40, Mask::all(), 1, &[2]),
         (&[2, 9], 40, click, 1, &[]),
+        // Users with more ends than the post, and with fewer.
+        (MANY, 20, Mask::all(), 10, &[2, 4, 5, 9]),
+        (MANY, 20, click, 10, &[2, 5, 9]),
+        (MANY, 20, Mask::all(), 2, &[2, 4]),
+        (MANY, 40, Mask::all(), 10, &[2]),
+        (MANY, 50, Mask::all(), 10, &[]),
+        (
+            &[18, 17, 16, 15, 4, 14, 13, 12, 11],
+            20,
+            Mask::all(),
+            10,
+            &[4],
+        ),
     ];
     for (seeds, post, mask, most, expected) in cases {
         let seeds = ids_of(&rt, seeds);

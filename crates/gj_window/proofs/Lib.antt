@@ -1,4 +1,5 @@
 pub mod FieldLemmas
+pub mod LeadsLemmas
 pub mod NumberLemmas
 pub mod PartLemmas
 pub mod WindowLemmas

@@ -2,7 +2,7 @@
 ghost use Rattle.std.specs.Prelude.{◌≡◌, ◌+◌, ◌^◌, ◌<◌, ◌≤◌, ◌++◌, length, count_by, slice_get, slice_index, Some, IfOk, IfSome};
 ghost use Rattle.gj_base.specs.Draw.{end_picked};
 ghost use Rattle.gj_base.specs.Edges.{edges_of};
-ghost use Rattle.gj_base.specs.Ends.{ends, other_side, passes};
+ghost use Rattle.gj_base.specs.Ends.{ends, other_side, passes, leads_to};
 ghost use Rattle.gj_base.specs.Kinds.{all_kinds};
 ghost use Rattle.gj_window.specs.Segments.{items_of, names_on};
 
@@ -207,5 +207,45 @@ impl Segments {
         ensures { IfOk result (λ edges. edges.items ≡ edges_of (items_of self.now) users.now mask) }
     {
         self.directory.edges_of(alloc, users, mask)
+    }
+
+    /// Whether one of the ends that the vertex has in the pools under the mask is the other vertex, where it has `fresh` of
+    /// all kinds and moments.
+    fn has_pooled(&self, side: Side, id: u64, mask: Mask, fresh: u32, other: u64) -> bool
+        requires { fresh ≡ length (ends (self.now.older ++ self.now.newest) side id all_kinds) }
+        ensures { result ≡ leads_to (ends (self.now.older ++ self.now.newest) side id mask) other }
+    {
+        for i in 0..self.count_pooled(side, id, mask, fresh) {
+            let (end, _kind) = self.end_pooled(side, id, mask, i);
+            if end == other {
+                return true;
+            }
+        }
+        false
+    }
+
+    /// Whether one of the ends of the vertex with this number and this identifier is the other vertex: first where it is
+    /// laid out, since most of its ends are.
+    fn has_at(&self, side: Side, v: u32, id: u64, mask: Mask, other: u64) -> bool
+        requires vertex { v < length (names_on self.now side) }
+        requires named { slice_index (names_on self.now side) v ≡ id }
+        ensures { result ≡ leads_to (ends (items_of self.now) side id mask) other }
+    {
+        if self.directory.has_end(side, v, mask, other) {
+            return true;
+        }
+        let (_full, fresh) = self.directory.degrees(side, v, Mask::all());
+        self.has_pooled(side, id, mask, fresh, other)
+    }
+
+    /// Whether one of its ends under the mask is the other vertex: by one lookup of each of the two where it is laid out, and
+    /// end by end where it has newer ones.
+    pub fn has_end(&self, side: Side, id: u64, mask: Mask, other: u64) -> bool
+        ensures { result ≡ leads_to (ends (items_of self.now) side id mask) other }
+    {
+        match self.directory.find(side, id) {
+            Some(v) => self.has_at(side, v, id, mask, other),
+            None => false,
+        }
     }
 }

@@ -153,6 +153,24 @@ fn same_ends<A: Graph, B: Graph>(
     }
 }
 
+/// Which vertices are across from a vertex.
+fn same_across<A: Graph, B: Graph>(
+    rt: &impl Abort,
+    one: &A,
+    other: &B,
+    side: Side,
+    id: u64,
+    mask: Mask,
+) {
+    for end in IDS {
+        let has = one.has_end(side, id, mask, end);
+        assert!(rt;
+            other.has_end(side, id, mask, end) == has,
+            "{side:?} {id} to {end} {mask:?}"
+        );
+    }
+}
+
 /// All identifiers that the random items have, and one that none has. The first four begin at one slot of a small table.
 const IDS: [u64; 8] = [1, 22, 56, 90, 2, 3, 4, 5];
 
@@ -166,6 +184,8 @@ fn same_reads<A: Graph, B: Graph>(rt: &impl Abort, one: &A, other: &B) {
         for id in IDS {
             same_ends(rt, one, other, Side::User, id, mask);
             same_ends(rt, one, other, Side::Post, id, mask);
+            same_across(rt, one, other, Side::User, id, mask);
+            same_across(rt, one, other, Side::Post, id, mask);
         }
     }
     for place in one.base()..one.length() {
@@ -293,6 +313,40 @@ fn a_heavy_vertex_is_walked_by_one_kind(rt: HostRuntime) -> Result<(), Fail> {
         word = next(word);
         assert_eq!(rt; window.pick_end(Side::User, 1, reply, word), Some(10));
         assert_eq!(rt; window.pick_end(Side::Post, 10, reply, word), Some(1));
+    }
+    Ok(())
+}
+
+/// Two of the user's interactions are laid out, and one is in a pool.
+#[test]
+fn an_end_is_found_in_either_form(rt: HostRuntime) -> Result<(), Fail> {
+    let mut window: Window = empty(&rt, rt.alloc(), 16, 2)?;
+    add(&rt, &mut window, 1, 10, Kind::Click, 5);
+    add(&rt, &mut window, 1, 11, Kind::Reply, 9);
+    for _ in 0..14 {
+        add(&rt, &mut window, 2, 12, Kind::Click, 0);
+    }
+    window.compact();
+    add(&rt, &mut window, 1, 13, Kind::Click, 7);
+    let all = Mask::all();
+    let click = Mask::one(Kind::Click);
+    for (mask, posts) in [
+        (all, [true, true, false, true, false]),
+        (click, [true, false, false, true, false]),
+        (all.from_moment(7), [false, true, false, true, false]),
+        (click.from_moment(8), [false, false, false, false, false]),
+    ] {
+        for (i, has) in posts.iter().enumerate() {
+            let post = 10 + i as u64;
+            assert!(rt;
+                window.has_end(Side::User, 1, mask, post) == *has,
+                "{post} {mask:?}"
+            );
+            assert!(rt;
+                window.has_end(Side::Post, post, mask, 1) == *has,
+                "{post} {mask:?}"
+            );
+        }
     }
     Ok(())
 }

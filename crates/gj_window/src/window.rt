@@ -102,6 +102,11 @@ impl Graph for Window {
     fn edges_of(&self, alloc: Global, users: &[u64], mask: Mask) -> Result<Vec<Item>, Memory> {
         self.segments.edges_of(alloc, users, mask)
     }
+
+    #[inline]
+    fn has_end(&self, side: Side, id: u64, mask: Mask, other: u64) -> bool {
+        self.segments.has_end(side, id, mask, other)
+    }
 }
 
 impl Grow for Window {

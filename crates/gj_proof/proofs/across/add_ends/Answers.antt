@@ -1,4 +1,5 @@
-use Rattle.gj_proof.proofs.EndsLemmas.{leads_more, or_more}
+use Rattle.gj_base.proofs.LeadsLemmas.{leads_more}
+use Rattle.gj_proof.proofs.EndsLemmas.{or_more}
 use Rattle.gj_proof.proofs.across.add_ends.Goals as goal
 
 pub loop-i-preserved : goal.loop-i-preserved

@@ -1,7 +1,6 @@
 use Rattle.std.proofs.Common.{◌≡◌, ◌||◌, ℕ, nat_eq, take}
 use Rattle.std.specs.HashSet.{contains}
-use Rattle.gj_base.specs.Ends.{ends}
-use Rattle.gj_proof.specs.Proofs.{leads_to}
+use Rattle.gj_base.specs.Ends.{ends, leads_to}
 use Rattle.gj_proof.proofs.across.add_ends.Given as goal
 
 abbrev pub invariant-loop-i : goal.invariant-loop-i

@@ -1,9 +1,8 @@
 use Rattle.std.proofs.Common.{sym}
 use Rattle.std.proofs.Math.Bool.{or-false}
 use Rattle.std.proofs.lemmas.List.Folds.{list_any_more}
-use Rattle.gj_base.specs.Ends.{ends}
+use Rattle.gj_base.specs.Ends.{ends, leads_to}
 use Rattle.gj_base.specs.declared.side.Side.TheVariants.{User}
-use Rattle.gj_proof.specs.Proofs.{leads_to}
 use Rattle.gj_proof.specs.Ranking.{meets}
 use Rattle.gj_proof.proofs.EndsLemmas.{or_more}
 use Rattle.gj_proof.proofs.across.add_known.Goals as goal

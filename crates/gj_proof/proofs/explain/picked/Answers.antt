@@ -1,7 +1,6 @@
 use Rattle.std.proofs.Common.{◌<◌, true, length, arith}
-use Rattle.gj_base.specs.Ends.{ends}
+use Rattle.gj_base.specs.Ends.{ends, leads_to}
 use Rattle.gj_base.specs.declared.side.Side.TheVariants.{Post}
-use Rattle.gj_proof.specs.Proofs.{leads_to}
 use Rattle.gj_proof.proofs.EndsLemmas.{picked_more}
 use Rattle.gj_proof.proofs.explain.picked.Goals as goal
 

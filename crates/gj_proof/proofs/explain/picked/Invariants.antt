@@ -1,7 +1,6 @@
 use Rattle.std.proofs.Common.{◌≡◌, ◌-◌, ◌++◌, length, take, filter}
 use Rattle.gj_base.specs.declared.side.Side.TheVariants.{Post}
-use Rattle.gj_base.specs.Ends.{ends}
-use Rattle.gj_proof.specs.Proofs.{leads_to}
+use Rattle.gj_base.specs.Ends.{ends, leads_to}
 use Rattle.gj_proof.proofs.explain.picked.Given as goal
 
 abbrev pub invariant-loop-seed : goal.invariant-loop-seed

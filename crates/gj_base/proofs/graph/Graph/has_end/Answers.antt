@@ -1,6 +1,6 @@
 use Rattle.std.proofs.Common.{sym, eq-eqb, ne_eqb}
-use Rattle.gj_proof.proofs.EndsLemmas.{leads_more, leads_found, or_none}
-use Rattle.gj_proof.proofs.across.has_end.Goals as goal
+use Rattle.gj_base.proofs.LeadsLemmas.{leads_more, leads_found, or_none}
+use Rattle.gj_base.proofs.graph.Graph.has_end.Goals as goal
 
 pub returns-then-end-other : goal.returns-then-end-other
 returns-then-end-other g c =
