@@ -1,5 +1,5 @@
 //! The pool of the first two cells of each vertex.
-ghost use Rattle.std.specs.Prelude.{◌≡◌, ◌<◌, ◌≤◌, ◌^◌, [], ◌++◌, IfOk, drop, length, replicate, slice_index};
+ghost use Rattle.std.specs.Prelude.{◌≡◌, ◌+◌, ◌-◌, ◌<◌, ◌≤◌, [], ◌++◌, IfOk, length, replicate, slice_index, vec_capacity};
 ghost use Rattle.gj_pool.specs.Lists.{appended, cells_of};
 
 use gj_base::Memory;
@@ -18,9 +18,9 @@ struct Pair {
 /// At most two cells for each vertex: level 0 of an [`EdgePool`](crate::EdgePool).
 #[derive(Drop)]
 pub struct RegularPool {
+    // those of the vertices up to the greatest that was pushed for
     pairs: Vec<Pair>,
-    /// No vertex from here on has a cell.
-    begun: usize,
+    vertices: u32,
 }
 
 /// A vertex with no cell.
@@ -30,26 +30,26 @@ const NO_CELL: Pair = Pair {
 };
 
 impl Model for RegularPool {
-    ghost use Rattle.std.specs.Prelude.{List, ℕ, map};
+    ghost use Rattle.std.specs.Prelude.{List, ℕ, ◌≤◌, length, vec_capacity};
 
     ghost Value = { List (List ℕ) };
 
-    ghost use Rattle.gj_pool.specs.Pairs.{AreBegun, pair_cells};
+    ghost use Rattle.gj_pool.specs.Pairs.{pair_lists};
 
-    ghost view = { λ pool. map pair_cells pool.pairs.items };
+    ghost view = { λ pool. pair_lists pool.pairs.items pool.vertices };
 
-    ghost invariant = { λ pool. AreBegun pool.pairs.items pool.begun };
+    ghost invariant = { λ pool. (length pool.pairs.items ≤ pool.vertices) × (pool.vertices ≤ vec_capacity pool.pairs) };
 }
 
 impl RegularPool {
-    /// A pool of `vertices` empty lists. It takes all its memory here.
+    /// A pool of `vertices` empty lists. It reserves all its memory here, and touches none of it.
     pub fn new(alloc: Global, vertices: u32) -> Result<RegularPool, Memory>
         requires some { 0 < vertices }
         requires limit { vertices ≤ 65536 }
         ensures ok { IfOk result (λ pool. pool ≡ replicate vertices []) }
     {
-        match vec![in alloc; NO_CELL; vertices as usize] {
-            Ok(pairs) => Ok(RegularPool { pairs, begun: 0 }),
+        match Vec::with_capacity(alloc, vertices as usize) {
+            Ok(pairs) => Ok(RegularPool { pairs, vertices }),
             Err(_) => Err(Memory),
         }
     }
@@ -60,10 +60,10 @@ impl RegularPool {
         requires room { length (cells_of self.old v) < 2 }
         ensures exact { self.new ≡ appended self.old v cell }
     {
+        reach(&mut self.pairs, v, NO_CELL);
         let pair = &mut self.pairs[v as usize];
         pair.cells[pair.degree as usize] = cell;
         pair.degree += 1;
-        self.begun = self.begun.max(v as usize + 1);
     }
 
     /// The cell at place `i` of vertex `v`.
@@ -81,22 +81,29 @@ impl RegularPool {
         ensures exact { result ≡ length (cells_of self.now v) }
         ensures limit { result ≤ 2 }
     {
-        self.pairs[v as usize].degree
+        if (v as usize) < self.pairs.len() {
+            self.pairs[v as usize].degree
+        } else {
+            0
+        }
     }
 
-    /// Empties each list. It takes time in the largest vertex that has a cell, and no memory.
+    /// Empties each list. It takes no memory.
     pub fn clear(&mut self)
         ensures exact { self.new ≡ replicate (length self.old) [] }
     {
-        fill_first(&mut self.pairs, self.begun, NO_CELL);
-        self.begun = 0;
+        self.pairs.clear();
     }
 }
 
-/// Gives the first pairs that value.
-fn fill_first(pairs: &mut [Pair], count: usize, value: Pair)
-    requires { count ≤ length pairs.old }
-    ensures { pairs.new ≡ replicate count value ++ drop count pairs.old }
+/// Makes pairs up to that of the vertex.
+#[inline]
+fn reach(pairs: &mut Vec<Pair>, v: u32, pair: Pair)
+    requires { v < vec_capacity pairs.old }
+    ensures pairs { pairs.new.items ≡ pairs.old.items ++ replicate (v + 1 - length pairs.old.items) pair }
+    ensures capacity { vec_capacity pairs.old ≤ vec_capacity pairs.new }
 {
-    pairs[..count].fill(value);
+    if pairs.len() <= v as usize {
+        pairs.resize(v as usize + 1, pair).unwrap();
+    }
 }

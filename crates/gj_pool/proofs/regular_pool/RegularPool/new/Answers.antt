@@ -1,9 +1,11 @@
-use Rattle.std.proofs.Common.{ap, ◌∙◌, map}
-use Rattle.gj_pool.specs.Pairs.{pair_cells}
-use Rattle.gj_pool.proofs.PairLemmas.{map-replicate}
+use Rattle.std.proofs.Common.{◌-◌, ◌≡◌, ℕ, ap, ◌∙◌, arith, List, [], replicate}
+use Rattle.gj_pool.specs.Pairs.{pair_lists}
+use Rattle.gj_pool.specs.declared.regular_pool.Pair.{Pair}
 use Rattle.gj_pool.proofs.regular_pool.RegularPool.new.Goals as goal
 
 pub returns-in-Ok : goal.returns-in-Ok
-returns-in-Ok c = record {
-  ok = ap (map pair_cells) (c.in-Ok.ensures.items_if_clones_equal (λ y e. e)) ∙ map-replicate pair_cells _ c.args.vertices;
-}
+returns-in-Ok c =
+    let all : c.args.vertices - 0 ≡ c.args.vertices = omega arith in
+    record {
+      ok = ap (λ (l : List Pair). pair_lists l c.args.vertices) c.in-Ok.ensures.items ∙ ap (λ (n : ℕ). replicate n (let l : List ℕ = [] in l)) all;
+    }
