@@ -1,5 +1,5 @@
 //! The seed users that explain a post.
-ghost use Rattle.std.specs.Prelude.{◌≡◌, ◌||◌, ℕ, nat_eq, map, IfOk};
+ghost use Rattle.std.specs.Prelude.{◌≡◌, ℕ, nat_eq, map, IfOk};
 ghost use Rattle.std.specs.Option.{ForSome};
 ghost use Rattle.std.specs.HashSet.{contains};
 ghost use Rattle.gj_base.specs.Ends.{ends, leads_to};

@@ -1,5 +1,5 @@
 //! The masses of the posts.
-ghost use Rattle.std.specs.Prelude.{◌≡◌, ◌∷◌, ◌+◌, ◌-◌, ◌*◌, ◌<◌, ◌≤◌, ℕ, [], fold, length, nat_lt, nat_eq, replicate, ◌==◌, if◌then◌else◌, IfOk, OnOk};
+ghost use Rattle.std.specs.Prelude.{◌≡◌, ◌-◌, ◌*◌, ◌<◌, ◌≤◌, ℕ, [], fold, length, nat_eq, replicate, ◌==◌, if◌then◌else◌, IfOk, OnOk};
 ghost use Rattle.std.specs.HashSet.{contains};
 ghost use Rattle.gj_base.specs.Edges.{stands_in, edges_of};
 ghost use Rattle.gj_base.specs.Tally.{with_number, sum_of};

@@ -1,4 +1,4 @@
-use Rattle.std.proofs.Common.{◌≡◌, ◌<◌, ◌≤◌, ℕ, List, length, ap, sym, ◌∙◌, arith, length-take}
+use Rattle.std.proofs.Common.{◌<◌, ◌≤◌, ℕ, List, length, ap, arith, length-take}
 use Rattle.gj_pool.specs.declared.regular_pool.Pair.{Pair}
 use Rattle.gj_pool.specs.Lists.{cells_of}
 use Rattle.gj_pool.proofs.PairLemmas.{held_there, held_behind, lists_long}

@@ -1,4 +1,4 @@
-use Rattle.std.proofs.Common.{◌≡◌, ◌+◌, ◌-◌, ◌<◌, ◌≤◌, ℕ, List, ◌++◌, length, get_or, set, replicate, ap, sym, ◌∙◌, refl, arith, length-take, []}
+use Rattle.std.proofs.Common.{◌≡◌, ◌+◌, ◌-◌, ◌<◌, ◌≤◌, ℕ, List, ◌++◌, length, replicate, ap, sym, ◌∙◌, refl, arith, length-take, []}
 use Rattle.std.proofs.lemmas.List.{take_more_set, length-set, length-append, length-replicate}
 use Rattle.gj_pool.specs.Pairs.{pair_cells, pair_lists}
 use Rattle.gj_pool.specs.Lists.{cells_of, appended}
