@@ -33,6 +33,12 @@ fn kind_of(i: u32) -> Kind {
     if i % 4 == 3 { Kind::Reply } else { Kind::Click }
 }
 
+/// So many of the edges, all of which are of user 5, are eligible.
+fn lets_through<V: SegmentView>(rt: &impl Abort, segment: &V, mask: Mask, eligible: u32) {
+    assert_eq!(rt; count_in(segment, Side::User, 5, mask), eligible);
+    assert_eq!(rt; segment.total(mask), eligible);
+}
+
 /// User 5 has `count` edges, to the posts from 100 on, two at each moment.
 fn is_one_long_list<V: SegmentView>(rt: &impl Abort, segment: &V, count: u32)
     requires { 59 < count }
@@ -55,16 +61,11 @@ fn is_one_long_list<V: SegmentView>(rt: &impl Abort, segment: &V, count: u32)
         );
     }
     let reply = Mask::one(Kind::Reply);
-    for (mask, eligible) in [
-        (reply, 15),
-        (all.from_moment(30), count - 60),
-        (reply.from_moment(29), 1),
-        (all.from_moment(32), 0),
-        (Mask::one(Kind::Tweet), 0),
-    ] {
-        assert_eq!(rt; count_in(segment, Side::User, 5, mask), eligible);
-        assert_eq!(rt; segment.total(mask), eligible);
-    }
+    lets_through(rt, segment, reply, 15);
+    lets_through(rt, segment, all.from_moment(30), count - 60);
+    lets_through(rt, segment, reply.from_moment(29), 1);
+    lets_through(rt, segment, all.from_moment(32), 0);
+    lets_through(rt, segment, Mask::one(Kind::Tweet), 0);
     assert_eq!(rt; end_at(rt, segment, Side::User, 5, reply, 14), 159);
     assert_eq!(rt;
         end_at(rt, segment, Side::User, 5, reply.from_moment(29), 0),
@@ -99,23 +100,37 @@ fn both_forms_find_each_edge_of_a_long_list(rt: HostRuntime) -> Result<(), Fail>
     Ok(())
 }
 
+/// The edge of the vertex with this index leads to the other.
+fn leads_to<V: SegmentView>(rt: &impl Abort, segment: &V, side: Side, id: u64, i: u32, other: u64) {
+    assert_eq!(rt; end_at(rt, segment, side, id, Mask::all(), i), other);
+}
+
 /// Users 3 and 9 share posts 30 and 31.
 fn is_a_square<V: SegmentView>(rt: &impl Abort, segment: &V) {
-    assert_eq!(rt;
-        (
-            segment.number_of(Side::User, 9),
-            segment.number_of(Side::Post, 3)
-        ),
-        (Some(1), None)
-    );
-    for (i, post) in [(0, 30), (1, 31), (2, 30)] {
-        assert_eq!(rt; end_at(rt, segment, Side::User, 3, Mask::all(), i), post);
-    }
-    for (i, user) in [(0, 3), (1, 9), (2, 3)] {
-        assert_eq!(rt; end_at(rt, segment, Side::Post, 30, Mask::all(), i), user);
-    }
+    assert_eq!(rt; segment.number_of(Side::User, 9), Some(1));
+    assert_eq!(rt; segment.number_of(Side::Post, 3), None);
+    leads_to(rt, segment, Side::User, 3, 0, 30);
+    leads_to(rt, segment, Side::User, 3, 1, 31);
+    leads_to(rt, segment, Side::User, 3, 2, 30);
+    leads_to(rt, segment, Side::Post, 30, 0, 3);
+    leads_to(rt, segment, Side::Post, 30, 1, 9);
+    leads_to(rt, segment, Side::Post, 30, 2, 3);
     assert_eq!(rt; segment.len(), 4);
     assert_eq!(rt; segment.item(2), (0, 1, Kind::Favorite, 8));
+}
+
+/// The pool with one more favorite.
+fn like(rt: &impl Abort, pool: &mut PoolSegment, user: u64, post: u64) {
+    add(rt, pool, user, post, Kind::Favorite, 8);
+}
+
+/// The contiguous form takes over what the pool has.
+fn take_over(rt: &impl Abort, compact: &mut CompactSegment, pool: &PoolSegment)
+    requires { compact.old.room ≡ 16 }
+    ensures { compact.new.room ≡ 16 }
+{
+    assert!(rt; pool.len() < 17);
+    compact.fill_from(pool);
 }
 
 #[test]
@@ -125,16 +140,15 @@ fn repeated_edges_stay_and_nothing_stays_of_a_longer_list(rt: HostRuntime) -> Re
     for i in 0..16 {
         add(&rt, &mut pool, 9 + i % 3, 31 - i, Kind::Click, i);
     }
-    assert!(rt; pool.len() < 17);
-    compact.fill_from(&pool);
-    assert_eq!(rt; end_at(&rt, &compact, Side::User, 10, Mask::all(), 4), 18);
+    take_over(&rt, &mut compact, &pool);
+    leads_to(&rt, &compact, Side::User, 10, 4, 18);
     pool.clear();
-    for (user, post) in [(3, 30), (9, 30), (3, 31), (3, 30)] {
-        add(&rt, &mut pool, user, post, Kind::Favorite, 8);
-    }
+    like(&rt, &mut pool, 3, 30);
+    like(&rt, &mut pool, 9, 30);
+    like(&rt, &mut pool, 3, 31);
+    like(&rt, &mut pool, 3, 30);
     is_a_square(&rt, &pool);
-    assert!(rt; pool.len() < 17);
-    compact.fill_from(&pool);
+    take_over(&rt, &mut compact, &pool);
     is_a_square(&rt, &compact);
     Ok(())
 }
@@ -146,26 +160,45 @@ fn reply_of(rt: &impl Abort, compact: &CompactSegment, block: u32) -> u32 {
     compact.block_count(Side::User, 0, block, Mask::one(Kind::Reply))
 }
 
-#[test]
-fn the_replies_of_65536_edges_are_found_one_by_one(rt: HostRuntime) -> Result<(), Fail> {
-    let mut pool = PoolSegment::new(rt.alloc(), 65536)?;
-    let mut compact = CompactSegment::new(rt.alloc(), 65536)?;
+/// A full segment of one user and one post, of the five kinds in turn.
+fn of_five_kinds(rt: &impl Abort, alloc: Global) -> Result<PoolSegment, Memory> {
+    let mut pool = PoolSegment::new(alloc, 65536)?;
     for i in 0..65536 {
-        let kind = Kind::from_number(i % 5).expect(&rt, "there are five kinds");
-        add(&rt, &mut pool, 1, 10, kind, 0);
+        let kind = Kind::from_number(i % 5).expect(rt, "there are five kinds");
+        add(rt, &mut pool, 1, 10, kind, 0);
     }
+    Ok(pool)
+}
+
+/// The same in contiguous form.
+fn filled(rt: &impl Abort, alloc: Global, pool: &PoolSegment) -> Result<CompactSegment, Memory> {
+    let mut compact = CompactSegment::new(alloc, 65536)?;
     assert!(rt; pool.len() < 65537);
-    compact.fill_from(&pool);
+    compact.fill_from(pool);
+    Ok(compact)
+}
+
+/// The user has 13107 replies.
+fn replies_are_found(rt: &impl Abort, compact: &CompactSegment) {
     let reply = Mask::one(Kind::Reply);
-    assert_eq!(rt; (pool.total(reply), compact.total(reply)), (13107, 13107));
     assert!(rt; compact.vertices(Side::User) > 0);
     assert_eq!(rt; compact.count_of(Side::User, 0, reply), 13107);
     for i in 0..13107 {
         assert_eq!(rt; compact.nth_of(Side::User, 0, reply, i), (0, Kind::Reply));
     }
-    for (block, replies) in [(0, 13), (1, 12), (1023, 13)] {
-        assert_eq!(rt; reply_of(&rt, &compact, block), replies, "block {block}");
-    }
+}
+
+#[test]
+fn the_replies_of_65536_edges_are_found_one_by_one(rt: HostRuntime) -> Result<(), Fail> {
+    let pool = of_five_kinds(&rt, rt.alloc())?;
+    let compact = filled(&rt, rt.alloc(), &pool)?;
+    let reply = Mask::one(Kind::Reply);
+    assert_eq!(rt; pool.total(reply), 13107);
+    assert_eq!(rt; compact.total(reply), 13107);
+    replies_are_found(&rt, &compact);
+    assert_eq!(rt; reply_of(&rt, &compact, 0), 13);
+    assert_eq!(rt; reply_of(&rt, &compact, 1), 12);
+    assert_eq!(rt; reply_of(&rt, &compact, 1023), 13);
     Ok(())
 }
 

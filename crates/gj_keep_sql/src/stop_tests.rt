@@ -199,14 +199,19 @@ fn stopping(alloc: Global, disks: &Disks, log_stops: bool, calls: u64) -> Result
     })
 }
 
+/// The version and the rows that the keeper has, which it migrates.
+fn migrated(alloc: Global, keeper: &mut StoppingKeeper) -> Result<(u64, Vec<KeptItem>), KeepError> {
+    let version = keeper.conf()?.map_or(0, |conf| conf.version);
+    keeper.migrate()?;
+    Ok((version, keeper.rows(alloc)?))
+}
+
 /// The version and the rows that a next run finds, which migrates them.
 fn found(alloc: Global, disks: Disks) -> Result<(u64, Vec<KeptItem>), Fail> {
     let Ok(mut keeper) = keeper_over(alloc, disks)? else {
         return Err("what is left is a database".into());
     };
-    let version = keeper.conf()?.map_or(0, |conf| conf.version);
-    keeper.migrate()?;
-    Ok((version, keeper.rows(alloc)?))
+    Ok(migrated(alloc, &mut keeper)?)
 }
 
 /// What is found after a kill, which leaves what was written, and after a loss of power, which leaves what was synced.
