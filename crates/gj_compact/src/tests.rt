@@ -124,15 +124,6 @@ fn like(rt: &impl Abort, pool: &mut PoolSegment, user: u64, post: u64) {
     add(rt, pool, user, post, Kind::Favorite, 8);
 }
 
-/// The contiguous form takes over what the pool has.
-fn take_over(rt: &impl Abort, compact: &mut CompactSegment, pool: &PoolSegment)
-    requires { compact.old.room ≡ 16 }
-    ensures { compact.new.room ≡ 16 }
-{
-    assert!(rt; pool.len() < 17);
-    compact.fill_from(pool);
-}
-
 #[test]
 fn repeated_edges_stay_and_nothing_stays_of_a_longer_list(rt: HostRuntime) -> Result<(), Fail> {
     let mut pool = PoolSegment::new(rt.alloc(), 16)?;
@@ -140,7 +131,8 @@ fn repeated_edges_stay_and_nothing_stays_of_a_longer_list(rt: HostRuntime) -> Re
     for i in 0..16 {
         add(&rt, &mut pool, 9 + i % 3, 31 - i, Kind::Click, i);
     }
-    take_over(&rt, &mut compact, &pool);
+    assert!(rt; pool.len() < 17);
+    compact.fill_from(&pool);
     leads_to(&rt, &compact, Side::User, 10, 4, 18);
     pool.clear();
     like(&rt, &mut pool, 3, 30);
@@ -148,7 +140,8 @@ fn repeated_edges_stay_and_nothing_stays_of_a_longer_list(rt: HostRuntime) -> Re
     like(&rt, &mut pool, 3, 31);
     like(&rt, &mut pool, 3, 30);
     is_a_square(&rt, &pool);
-    take_over(&rt, &mut compact, &pool);
+    assert!(rt; pool.len() < 17);
+    compact.fill_from(&pool);
     is_a_square(&rt, &compact);
     Ok(())
 }
