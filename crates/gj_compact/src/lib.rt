@@ -14,8 +14,6 @@ mod lane;
 mod part;
 mod spans;
 mod sums;
-#[cfg(test)]
-mod tests;
 mod totals;
 mod turns;
 mod view;

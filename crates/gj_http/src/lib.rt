@@ -15,8 +15,6 @@ mod message;
 mod options;
 mod responses;
 mod routes;
-#[cfg(test)]
-mod tests;
 
 pub use fixed::fixed_response;
 pub use found::{Found, RouteError};
@@ -29,7 +27,3 @@ pub use message::{Message, Method, Refused, Step};
 pub use responses::response;
 pub use routes::Routes;
 
-#[cfg(test)]
-mod calls;
-#[cfg(test)]
-mod framing_tests;

@@ -12,8 +12,6 @@ mod memory_keepers;
 mod no_keeper;
 mod opening;
 mod reading;
-#[cfg(test)]
-mod tests;
 
 pub use book::Book;
 pub use local::Local;

@@ -9,8 +9,6 @@ pub mod laws;
 mod levels;
 mod regular_pool;
 mod slices;
-#[cfg(test)]
-mod tests;
 
 pub use edge_pool::EdgePool;
 pub use regular_pool::RegularPool;

@@ -10,8 +10,6 @@ mod explain;
 mod laws;
 mod order;
 mod ranked;
-#[cfg(test)]
-mod tests;
 
 pub use explain::{explained, proofs};
 pub use laws::ranking_law;

@@ -12,8 +12,6 @@ mod pieces;
 mod reply;
 mod room;
 mod status;
-#[cfg(test)]
-mod tests;
 mod text;
 
 pub use edge::{EdgeList, EdgeOf};

@@ -22,9 +22,3 @@ pub use name::Name;
 pub use refusal::{Reason, Refusal};
 pub use request::read_request;
 
-#[cfg(test)]
-mod batch_tests;
-#[cfg(test)]
-mod count_tests;
-#[cfg(test)]
-mod tests;

@@ -7,8 +7,6 @@
 mod edge;
 mod half;
 mod pool_segment;
-#[cfg(test)]
-mod tests;
 mod view;
 
 pub use pool_segment::PoolSegment;

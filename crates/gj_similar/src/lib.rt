@@ -8,8 +8,6 @@ mod order;
 mod score;
 mod state;
 mod steps;
-#[cfg(test)]
-mod tests;
 
 pub use order::order_scores;
 pub use score::{Score, ScoreList};

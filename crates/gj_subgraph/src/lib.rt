@@ -9,8 +9,6 @@ mod masses;
 mod number;
 mod relaid;
 mod step;
-#[cfg(test)]
-mod tests;
 mod vertices;
 
 pub use masses::{Masses, subgraph};

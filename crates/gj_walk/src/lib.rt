@@ -5,8 +5,6 @@
 
 mod state;
 mod steps;
-#[cfg(test)]
-mod tests;
 
 pub use state::State;
 pub use steps::{Visits, walk};

@@ -7,8 +7,6 @@
 
 mod reading;
 mod segments;
-#[cfg(test)]
-mod tests;
 mod turning;
 mod window;
 

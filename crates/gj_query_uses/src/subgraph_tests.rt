@@ -1,8 +1,8 @@
 ghost use Rattle.std.specs.Prelude.{◌≡◌, ◌∷◌, [], IfOk};
 ghost use Rattle.gj_base.specs.Asks.{AreSeeds};
 
-use crate::subgraph;
 use gj_base::{Conf, Graph, Grow, IdList, Item, Kind, ListGraph, Mask, Memory, SubAsk};
+use gj_subgraph::subgraph;
 use std::alloc::Global;
 use std::process::Abort;
 use std::test::Fail;

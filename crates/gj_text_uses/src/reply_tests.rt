@@ -1,8 +1,8 @@
 //! Each text of a reply once, and each fixed body.
 
-use crate::{EdgeList, EdgeOf, Fixed, KindCounts, Reply, Status, fixed_body, write_reply};
 use gj_base::{Conf, IdList, Item, ItemList, Kind, List};
 use gj_proof::{Ranked, RankedList};
+use gj_reply::{EdgeList, EdgeOf, Fixed, KindCounts, Reply, Status, fixed_body, write_reply};
 use gj_request::Name;
 use gj_similar::{Score, ScoreList};
 use std::alloc::Global;

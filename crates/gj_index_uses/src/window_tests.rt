@@ -1,7 +1,7 @@
 //! The window at its turns, and beside the plain graph.
 
-use crate::Window;
 use gj_base::{Conf, Graph, Grow, Hint, Item, Kind, ListGraph, Mask, Memory, NO_HINT, Side};
+use gj_window::Window;
 use std::alloc::Global;
 use std::process::Abort;
 use std::test::Fail;

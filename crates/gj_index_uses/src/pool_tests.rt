@@ -1,7 +1,7 @@
 //! The layout by levels, on known places; what no clause says.
 ghost use Rattle.std.specs.Prelude.{◌≡◌, ◌<◌, length};
 
-use crate::{EdgePool, RegularPool};
+use gj_pool::{EdgePool, RegularPool};
 use std::process::Abort;
 use std::test::Fail;
 

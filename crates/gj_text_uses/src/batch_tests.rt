@@ -1,7 +1,5 @@
-use crate::plain::read_plain;
-use crate::request::read_by_tree;
-use crate::{Name, Refusal, read_request};
 use gj_base::{Ask, ItemList, Kind, MAX_ID, Route};
+use gj_request::{Name, Refusal, read_request};
 use std::alloc::Global;
 use std::process::Abort;
 use std::test::Fail;
@@ -128,185 +126,57 @@ fn long_batch(rt: &(impl Abort + AllocGlobal), count: u64) -> Result<String, Fai
 
 #[test]
 fn a_batch_has_at_most_4096_items(rt: HostRuntime) -> Result<(), Fail> {
-    for (count, is_plain, refusal) in [
-        (4096, true, None),
-        (4097, false, Some(Refusal::Range(Name::Items))),
-    ] {
-        let body = long_batch(&rt, count)?;
-        assert_eq!(rt;
-            batch_refusal(rt.alloc(), body.as_str().as_bytes()),
-            refusal
-        );
-        assert_eq!(rt;
-            read_plain(rt.alloc(), body.as_str().as_bytes()).is_some(),
-            is_plain
-        );
-        assert!(rt; is_read_alike(rt.alloc(), body.as_str()), "{count} items");
-    }
+    let body = long_batch(&rt, 4096)?;
+    let items = batch_of(rt.alloc(), body.as_str()).ok_or("no batch")?;
+    assert_eq!(rt; items.len(), 4096);
+    assert_eq!(rt; items.as_slice()[4095].user, 4095);
+    let body = long_batch(&rt, 4097)?;
+    assert_eq!(rt;
+        batch_refusal(rt.alloc(), body.as_str().as_bytes()),
+        Some(Refusal::Range(Name::Items))
+    );
     Ok(())
-}
-
-/// Whether a body has the same answer as by its tree.
-fn is_read_alike(alloc: Global, body: &str) -> bool {
-    let answer = read_request(alloc, Route::Interactions, None, body.as_bytes());
-    let by_tree = read_by_tree(alloc, body.as_bytes());
-    match (&answer, &by_tree) {
-        (Ok(Ask::Items(items)), Ok(Ask::Items(same))) => items.as_slice() == same.as_slice(),
-        (Ok(Ask::Noted(batch)), Ok(Ask::Noted(same))) => {
-            batch.producer == same.producer
-                && batch.number == same.number
-                && batch.items.as_slice() == same.items.as_slice()
-        }
-        (Err(refusal), Err(same)) => *refusal == *same,
-        _ => false,
-    }
 }
 
 const ITEM: &str = "{\"user\":1,\"post\":2,\"kind\":\"click\"}";
 
-/// A batch of three elements, with this one at its place.
-fn batch_with(rt: &(impl Abort + AllocGlobal), element: &str, place: u32) -> String {
-    let body = match place {
-        0 => format!(in rt.alloc(); "{{\"items\":[{element},{ITEM},{ITEM}]}}"),
-        1 => format!(in rt.alloc(); "{{\"items\":[{ITEM},{element},{ITEM}]}}"),
-        _ => format!(in rt.alloc(); "{{\"items\":[{ITEM},{ITEM},{element}]}}"),
-    };
-    body.expect(rt, "memory")
-}
-
-fn has_form(rt: &(impl Abort + AllocGlobal), body: &str, is_plain: bool) {
-    assert_eq!(rt;
-        read_plain(rt.alloc(), body.as_bytes()).is_some(),
-        is_plain,
-        "{body}"
-    );
-    assert!(rt; is_read_alike(rt.alloc(), body), "{body}");
+/// The user, the post and the kind of the first interaction of a body, if it is one of batches.
+fn first_of(alloc: Global, body: &str) -> Option<(u64, u64, Kind)> {
+    let items = batch_of(alloc, body)?;
+    let first = items.as_slice()[0];
+    Some((first.user, first.post, first.kind))
 }
 
 #[test]
-fn an_element_in_any_form_is_read_as_by_the_tree(rt: HostRuntime) {
-    for (element, is_plain) in [
-        (
-            "{\"at\":9223372036854775807,\"kind\":\"tweet\",\"post\":0,\"user\":9223372036854775807}",
-            true,
-        ),
-        (
-            " {\n\"post\" : 2 ,\t\"kind\" :\"reply\",\r\"user\": 1 } ",
-            true,
-        ),
-        (
-            "{\"us\\u0065r\":1,\"post\":2,\"kind\":\"cl\\u0069ck\"}",
-            true,
-        ),
-        (
-            "{\"user\":1,\"post\":2,\"kind\":\"click\",\"user\":3}",
-            false,
-        ),
-        (
-            "{\"user\":1,\"post\":2,\"kind\":\"click\",\"at\":0,\"at\":1}",
-            false,
-        ),
-        ("{\"user\":1,\"post\":2,\"kind\":\"click\",\"x\":0}", false),
-        ("{\"user\":1,\"post\":2}", false),
-        ("{\"post\":2,\"kind\":\"click\"}", false),
-        ("{\"user\":1,\"post\":2,\"kind\":\"Click\"}", false),
-        ("{\"user\":1,\"post\":2,\"kind\":3}", false),
-        ("{\"user\":\"click\",\"post\":2,\"kind\":\"click\"}", false),
-        ("{\"user\":-1,\"post\":2,\"kind\":\"click\"}", false),
-        ("{\"user\":1.0,\"post\":2,\"kind\":\"click\"}", false),
-        ("{\"user\":1,\"post\":1e2,\"kind\":\"click\"}", false),
-        ("{\"user\":1,\"post\":01,\"kind\":\"click\"}", false),
-        (
-            "{\"user\":9223372036854775808,\"post\":2,\"kind\":\"click\"}",
-            false,
-        ),
-        (
-            "{\"user\":1,\"post\":18446744073709551616,\"kind\":\"click\"}",
-            false,
-        ),
-        (
-            "{\"user\":1,\"post\":2,\"kind\":\"click\",\"at\":9223372036854775808}",
-            false,
-        ),
-        (
-            "{\"user\":1,\"post\":2,\"kind\":\"click\",\"at\":null}",
-            false,
-        ),
-        ("{\"user\":1,\"post\":2,\"kind\":\"click\",}", false),
-        ("{\"user\":1,\"post\":2,\"kind\":\"click\"", false),
-        ("[{\"user\":1,\"post\":2,\"kind\":\"click\"}]", false),
-        ("7", false),
-        ("", false),
+fn names_come_in_any_order_with_blanks_and_escapes(rt: HostRuntime) {
+    for body in [
+        "\n{ \"items\" : [ {\n\"post\" : 2 ,\t\"kind\" :\"click\",\r\"user\": 1 } ] }\t",
+        "{\"\\u0069tems\":[{\"us\\u0065r\":1,\"post\":2,\"kind\":\"cl\\u0069ck\"}]}",
+        "{\"items\":[{\"user\":3,\"post\":2,\"kind\":\"click\",\"user\":1}]}",
     ] {
-        for place in 0..3 {
-            has_form(&rt, batch_with(&rt, element, place).as_str(), is_plain);
-        }
+        assert_eq!(rt;
+            first_of(rt.alloc(), body),
+            Some((1, 2, Kind::Click)),
+            "{body}"
+        );
     }
 }
 
 #[test]
-fn a_body_in_any_form_is_read_as_by_the_tree(rt: HostRuntime) {
-    for (front, back, is_plain) in [
-        ("\n{ \"items\" : [", "] }\t", true),
-        ("{\"\\u0069tems\":[", "]}", true),
-        ("{\"items\":[", "]} x", false),
-        ("{\"items\":[", "]}}", false),
-        ("{\"items\":[", "]}{}", false),
-        ("{\"items\":[", ",]}", false),
-        ("{\"items\":[", "]", false),
-        ("{\"items\":[", "],\"items\":[]}", false),
-        ("{\"items\":[", "],\"producer\":5,\"number\":1}", true),
-        ("{\"items\":[", "],\"number\":1,\"producer\":5}", true),
-        ("{\"number\":1,\"items\":[", "],\"producer\":5}", true),
-        (
-            "{ \"producer\" :5,\"n\\u0075mber\":1,\"items\":[",
-            "]}",
-            true,
-        ),
-        (
-            "{\"items\":[",
-            "],\"producer\":1024,\"number\":281474976710656}",
-            true,
-        ),
-        ("{\"items\":[", "],\"producer\":0,\"number\":0}", true),
-        ("{\"items\":[", "],\"number\":0}", true),
-        ("{\"items\":[", "],\"producer\":5}", false),
-        ("{\"items\":[", "],\"number\":1}", false),
-        ("{\"items\":[", "],\"producer\":1025,\"number\":1}", false),
-        (
-            "{\"items\":[",
-            "],\"producer\":5,\"number\":281474976710657}",
-            false,
-        ),
-        ("{\"items\":[", "],\"producer\":5,\"number\":\"1\"}", false),
-        ("{\"items\":[", "],\"producer\":5,\"number\":[1]}", false),
-        ("{\"items\":[", "],\"producer\":5,\"number\":1e0}", false),
-        (
-            "{\"items\":[",
-            "],\"producer\":5,\"number\":1,\"number\":1}",
-            false,
-        ),
-        (
-            "{\"producer\":5,\"producer\":5,\"number\":1,\"items\":[",
-            "]}",
-            false,
-        ),
-        (
-            "{\"items\":[",
-            "],\"producer\":5,\"number\":1,\"x\":0}",
-            false,
-        ),
-        ("{\"producer\":[", "],\"number\":1}", false),
-        ("{\"items\":[", "],\"user\":0}", false),
-        ("{\"item\":[", "]}", false),
-        ("[", "]", false),
-        ("", "", false),
+fn what_is_no_whole_batch_is_refused(rt: HostRuntime) {
+    for (front, back) in [
+        ("{\"items\":[", "]} x"),
+        ("{\"items\":[", "]}}"),
+        ("{\"items\":[", ",]}"),
+        ("{\"items\":[", "]"),
+        ("[", "]"),
     ] {
         let body = format!(in rt.alloc(); "{front}{ITEM}{back}").expect(&rt, "memory");
-        has_form(&rt, body.as_str(), is_plain);
+        assert!(rt;
+            batch_of(rt.alloc(), body.as_str()).is_none(),
+            "{front} {back}"
+        );
     }
-    has_form(&rt, "{\"items\":[]}", false);
-    has_form(&rt, "{\"producer\":5,\"number\":1}", false);
 }
 
 /// The body with one element and these fields beside it.

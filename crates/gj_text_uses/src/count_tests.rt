@@ -1,5 +1,5 @@
-use crate::{Name, Refusal, read_request};
 use gj_base::{Ask, CountAsk, Kind, KindLeast, MAX_ID, Query, Route};
+use gj_request::{Name, Refusal, read_request};
 use std::alloc::Global;
 use std::process::Abort;
 use std::test::Fail;

@@ -1,10 +1,10 @@
 ghost use Rattle.std.specs.Prelude.{◌≡◌, ◌<◌, ◌≤◌, length, [], ◌∷◌, IfOk};
 ghost use Rattle.gj_base.specs.Asks.{AreSeeds};
 
-use crate::{State, walk};
 use gj_base::{
     Conf, Grow, IdList, Item, Kind, ListGraph, MAX_RESET, Mask, Memory, WalkAsk, add_all,
 };
+use gj_walk::{State, walk};
 use rand_core::SeedableRng;
 use rand_core::utils::NextWord;
 use rand_pcg::Lcg128Xsl64;

@@ -1,7 +1,7 @@
 //! Whole responses, and the routes of paths.
 
-use crate::{Found, Method, RouteError, Routes, fixed_response, response};
 use gj_base::Route;
+use gj_http::{Found, Method, RouteError, Routes, fixed_response, response};
 use gj_reply::{Fixed, Status};
 use std::alloc::Global;
 use std::process::Abort;

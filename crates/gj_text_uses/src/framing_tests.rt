@@ -1,7 +1,7 @@
 ghost use Rattle.std.specs.Prelude.{◌<◌};
 
 use crate::calls::next_length;
-use crate::{Framer, Refused, Step};
+use gj_http::{Framer, Refused, Step};
 use std::alloc::{AllocError, Global};
 use std::fmt::Write;
 use std::test::Fail;

@@ -1,7 +1,7 @@
 ghost use Rattle.std.specs.Prelude.{◌≡◌, ◌<◌, ◌≤◌, length};
 
-use crate::{Score, ScoreList, State, order_scores, similar};
 use gj_base::{Conf, Grow, Item, Kind, ListGraph, Mask, Memory, SimAsk, add_all};
+use gj_similar::{Score, ScoreList, State, order_scores, similar};
 use rand_core::SeedableRng;
 use rand_pcg::Lcg128Xsl64;
 use std::alloc::Global;

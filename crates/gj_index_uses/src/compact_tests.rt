@@ -2,8 +2,8 @@
 
 ghost use Rattle.std.specs.Prelude.{◌<◌};
 
-use crate::CompactSegment;
 use gj_base::{Item, Kind, Mask, Memory, SegmentView, Side, count_in, end_in};
+use gj_compact::CompactSegment;
 use gj_segment::PoolSegment;
 use std::alloc::Global;
 use std::process::Abort;

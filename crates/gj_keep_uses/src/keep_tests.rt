@@ -3,11 +3,11 @@ ghost use Rattle.gj_base.specs.declared.history.History.{History};
 ghost use Rattle.gj_keep.specs.Locals.{LocalKeeps};
 ghost use Rattle.gj_keep.specs.MemoryHomes.{is_home};
 
-use super::*;
 use gj_base::{
     Conf, Graph, Grow, HISTORY_END, Index, IndexError, Item, KeepError, Keeper, Keepers, KeptConf,
     KeptItem, Kind, ListGraph, MAX_ID, Receipt, Side,
 };
+use gj_keep::{Book, Local, MemoryKeeper, MemoryKeepers, NoKeepers, OpenError, OpenRefused};
 use std::alloc::{AllocError, Global};
 use std::process::Abort;
 use std::test::Fail;

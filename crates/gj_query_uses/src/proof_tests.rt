@@ -1,5 +1,5 @@
-use crate::{RankedList, explained, proofs, rank};
 use gj_base::{Conf, Graph, Grow, IdList, Item, Kind, ListGraph, Mask, Tally};
+use gj_proof::{RankedList, explained, proofs, rank};
 use std::process::Abort;
 
 fn graph_of(rt: &(impl Abort + AllocGlobal), edges: &[(u64, u64, Kind)]) -> ListGraph {

@@ -1,9 +1,8 @@
-// What a caller of the framer learns, whose message is given back.
+//! What a caller of the framer learns, whose message is given back.
 
 ghost use Rattle.gj_http.specs.Taken.{IsTaken};
 
-use crate::framer::Framer;
-use crate::message::{Refused, Step};
+use gj_http::{Framer, Refused, Step};
 
 /// The length of the next body, or the refusal, or nothing where more is needed. What follows the message is left.
 pub fn next_length(framer: &mut Framer) -> Result<usize, Option<Refused>>

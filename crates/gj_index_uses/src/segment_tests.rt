@@ -1,7 +1,7 @@
 //! The segment at its limits; the cases that both forms of a segment share are tested with the contiguous one.
 
-use crate::PoolSegment;
 use gj_base::{Item, Kind, Mask, SegmentView, Side, count_in};
+use gj_segment::PoolSegment;
 use std::process::Abort;
 use std::test::Fail;
 
