@@ -3,10 +3,23 @@ ghost use Rattle.std.specs.Prelude.{◌≡◌, ℕ, ◌+◌, ◌-◌, ◌/◌, �
 ghost use Rattle.gj_subgraph.specs.Masses.{half_step};
 ghost use Rattle.gj_subgraph.specs.Numbers.{AreNumbered, units_in};
 
-use crate::number::{add, push, zeros};
+use crate::number::{add, push, with_room, zeros};
 use crate::vertices::Vertices;
 use gj_base::Memory;
 use std::alloc::Global;
+
+/// The even part of the units that each edge of a vertex carries, and how many first edges carry one more. Most vertices have
+/// one edge, and a division is what a half step would wait for.
+fn divided(units: u64, degree: u64) -> (u64, u64)
+    requires { 0 < degree }
+    ensures { (result.0 ≡ units / degree) × (result.1 ≡ units % degree) }
+{
+    if degree == 1 {
+        (units, 0)
+    } else {
+        (units / degree, units % degree)
+    }
+}
 
 /// For each vertex the even part of its units that each edge carries, and how many first edges carry one more.
 fn parts_of(alloc: Global, degrees: &[u64], units: &[u64]) -> Result<(Vec<u64>, Vec<u64>), Memory>
@@ -17,11 +30,12 @@ fn parts_of(alloc: Global, degrees: &[u64], units: &[u64]) -> Result<(Vec<u64>, 
     ensures more_len { IfOk result (λ r. length r.1.items ≡ length units.now) }
     ensures more { IfOk result (λ r. (u : ℕ) → u < length units.now → slice_index r.1.items u ≡ slice_index units.now u % slice_index degrees.now u) }
 {
-    let mut parts = Vec::new(alloc);
-    let mut more = Vec::new(alloc);
+    let mut parts = with_room(alloc, units.len())?;
+    let mut more = with_room(alloc, units.len())?;
     for u in 0..units.len() {
-        push(&mut parts, units[u] / degrees[u])?;
-        push(&mut more, units[u] % degrees[u])?;
+        let (part, left) = divided(units[u], degrees[u]);
+        push(&mut parts, part)?;
+        push(&mut more, left)?;
     }
     Ok((parts, more))
 }
