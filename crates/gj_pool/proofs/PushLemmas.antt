@@ -22,12 +22,12 @@ some_slice : (n : ℕ) → 4 < slice_size n → (m : ℕ) × (suc m ≡ n)
 some_slice zero h = absurd (omega (arith, h, size-zero))
 some_slice (suc m) h = (m, refl)
 
--- the link cell of a full row lies in the array
-pub link_within : (rows : List Row) (cells : List ℕ) (used v : ℕ) (was : Row) → AreSlices rows cells used → v < length rows → was ≡ get_or rows v was → was.degree ≡ was.full → 0 < was.full → was.next < length cells
+-- the link cell of a full row lies in a slice that is cut
+pub link_within : (rows : List Row) (cells : List ℕ) (used v : ℕ) (was : Row) → AreSlices rows cells used → v < length rows → was ≡ get_or rows v was → was.degree ≡ was.full → 0 < was.full → was.next < used
 link_within rows cells used v was s within read full some =
     let r : IsRow cells used s.apart.whose s.apart.which v was = row_at rows cells used v was s.apart within read in
     let m = some_slice (slices_for was.degree) (omega (arith, r.full)) in
-    omega (arith, r.keeps.next_is m.0 m.1, r.keeps.inside m.0 (omega (arith, m.1)), s.within, r.full, full, ap slice_size m.1, size-suc m.0)
+    omega (arith, r.keeps.next_is m.0 m.1, r.keeps.inside m.0 (omega (arith, m.1)), r.full, full, ap slice_size m.1, size-suc m.0)
 
 -- what one more cell costs
 cost_full : (t n : ℕ) → slices_for t ≡ n → t + 4 ≡ slice_size n → spent (t + 1 + 2) ≡ spent (t + 2) + (slice_size n + 1)
@@ -88,7 +88,7 @@ made_ready rows cells new used more v was row s within read how =
                 (let b = how.linked full some in
                 let m = some_slice (slices_for was.degree) (omega (arith, r.full)) in
                 let base : IsReady rows cells (set cells was.next used) (used + was.full + 5) v was row =
-                ready_link rows cells used v was row s.apart within read full (link_within rows cells used v was s within read full some) m.0 m.1 e.0 e.1 e.2 b.0 in
+                ready_link rows cells used v was row s.apart within read full (omega (arith, link_within rows cells used v was s within read full some, s.within)) m.0 m.1 e.0 e.1 e.2 b.0 in
                 subst (λ (n : List ℕ). IsReady rows cells n more v was row) (sym b.1)
                 (subst (λ (u : ℕ). IsReady rows cells (set cells was.next used) u v was row) (sym e.3) base))
           ])
@@ -118,13 +118,13 @@ grows rows cells new used more v was row s within read how =
 pub next_within : (rows : List Row) (old cells : List ℕ) (used v : ℕ) (was row : Row) → IsReady rows old cells used v was row → row.next < used
 next_within rows old cells used v was row r = (own_place cells used r.whose r.which v r.slice row.first row.degree row.next r.keeps r.spare).3
 
--- where the next cell goes lies in the array
-pub next_fits : (rows : List Row) (cells new : List ℕ) (used more v x : ℕ) (was row : Row) (lists : List (List ℕ)) → AreSlices rows cells used → v < length rows → was ≡ get_or rows v was → Readies was row cells new used more → map (view_of cells) rows ≡ lists → cut_for (appended lists v x) ≤ length cells → (row.next < length new) × (row.next < 196608)
+-- where the next cell goes lies in a slice that is cut
+pub next_fits : (rows : List Row) (cells new : List ℕ) (used more v x : ℕ) (was row : Row) (lists : List (List ℕ)) → AreSlices rows cells used → v < length rows → was ≡ get_or rows v was → Readies was row cells new used more → map (view_of cells) rows ≡ lists → cut_for (appended lists v x) ≤ length cells → (row.next < more) × (row.next < 196608)
 next_fits rows cells new used more v x was row lists s within read how seen room =
     let below : row.next < more = next_within rows cells new more v was row (made_ready rows cells new used more v was row s within read how) in
     let g : Grows was cells new used more = grows rows cells new used more v was row s within read how in
     let cut = cut_push rows cells used v was x lists s within read seen in
-    (omega (arith, below, g.long, g.cost, cut, room), omega (arith, below, g.cost, cut, room, s.small))
+    (below, omega (arith, below, g.cost, cut, room, s.small))
 
 -- a new slice fits
 pub slice_fits : (rows : List Row) (cells : List ℕ) (used v x : ℕ) (was : Row) (lists : List (List ℕ)) → AreSlices rows cells used → v < length rows → was ≡ get_or rows v was → map (view_of cells) rows ≡ lists → cut_for (appended lists v x) ≤ length cells → was.degree ≡ was.full → used + was.full + 5 ≤ length cells

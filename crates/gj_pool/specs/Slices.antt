@@ -1,5 +1,5 @@
 -- How the cells of the levels from 1 on lie in their array. Places count from the first past level 0, slices from 0.
-use Rattle.std.specs.Prelude.{◌≡◌, ℕ, zero, suc, ◌+◌, ◌-◌, ◌*◌, ◌<◌, ◌≤◌, List, length, map, slice_index, slice_index_or}
+use Rattle.std.specs.Prelude.{◌≡◌, ℕ, zero, suc, ◌+◌, ◌-◌, ◌*◌, ◌<◌, ◌≤◌, List, ◌++◌, length, map, replicate, slice_index, slice_index_or}
 use Rattle.std.specs.List.{range_with_len, sum_by}
 use Rattle.gj_pool.specs.Levels.{hops_to, spent}
 use Rattle.gj_pool.specs.declared.slices.Row.{Row}
@@ -8,6 +8,10 @@ use Rattle.gj_pool.specs.declared.slices.Row.{Row}
 pub record Sliced : Type 0 where
   pub lists : List (List ℕ)
   pub room : ℕ
+
+-- the whole array: the cells behind those that are cut are zeros that nobody wrote yet
+abbrev pub array_of : List ℕ → ℕ → List ℕ
+array_of cells room = cells ++ replicate (room - length cells) 0
 
 -- the cells of a slice
 unfoldable pub slice_size : ℕ → ℕ

@@ -32,7 +32,8 @@ impl Model for EdgePool {
 }
 
 impl EdgePool {
-    /// A pool of `vertices` empty lists, which takes `edges` pushes between two clears.
+    /// A pool of `vertices` empty lists, which takes `edges` pushes between two clears. It reserves all its memory here, and
+    /// touches that of the cells only as slices are cut.
     pub fn new(alloc: Global, vertices: u32, edges: u32) -> Result<EdgePool, Memory>
         requires some_vertices { 0 < vertices }
         requires some_edges { 0 < edges }

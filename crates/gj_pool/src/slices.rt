@@ -1,5 +1,5 @@
 //! The slices of the levels from 1 on, cut from one array.
-ghost use Rattle.std.specs.Prelude.{◌≡◌, ◌≢◌, ℕ, ◌+◌, ◌-◌, ◌*◌, ◌^◌, ◌<◌, ◌≤◌, [], ◌++◌, IfOk, drop, length, replicate, slice_index, slice_set, vec_len};
+ghost use Rattle.std.specs.Prelude.{◌≡◌, ◌≢◌, ℕ, ◌+◌, ◌-◌, ◌*◌, ◌^◌, ◌<◌, ◌≤◌, [], ◌++◌, IfOk, drop, length, replicate, slice_index, slice_set, vec_capacity};
 ghost use Rattle.gj_pool.specs.Levels.{hops_to};
 ghost use Rattle.gj_pool.specs.Lists.{appended, cells_of};
 
@@ -25,28 +25,31 @@ struct Row {
 #[derive(Drop)]
 pub struct Slices {
     rows: Vec<Row>,
+    /// Those of the slices that are cut.
     cells: Vec<u32>,
-    used: u32,
+    /// The number of cells that all slices may have.
+    room: u32,
     /// No vertex from here on has a slice.
     begun: usize,
 }
 
 impl Model for Slices {
-    ghost use Rattle.std.specs.Prelude.{length, map};
-    ghost use Rattle.gj_pool.specs.Slices.{AreSlices, HaveBegun, Sliced, row_cells};
+    ghost use Rattle.std.specs.Prelude.{◌≤◌, length, map, vec_capacity};
+    ghost use Rattle.gj_pool.specs.Slices.{AreSlices, HaveBegun, Sliced, array_of, row_cells};
     ghost use Rattle.gj_pool.specs.declared.slices.Row.{Row};
 
     ghost Value = { Sliced };
 
-    ghost view = { λ s. record { lists = map (λ (row : Row). row_cells s.cells.items row.first row.degree) s.rows.items; room = length s.cells.items } };
+    ghost view = { λ s. record { lists = map (λ (row : Row). row_cells (array_of s.cells.items s.room) row.first row.degree) s.rows.items; room = s.room } };
 
-    ghost invariant = { λ s. AreSlices s.rows.items s.cells.items s.used × HaveBegun s.rows.items s.begun };
+    ghost invariant = { λ s. AreSlices s.rows.items (array_of s.cells.items s.room) (length s.cells.items) × HaveBegun s.rows.items s.begun × (length s.cells.items ≤ s.room) × (s.room ≤ vec_capacity s.cells) };
 }
 
 impl Slices {
     ghost use Rattle.gj_pool.specs.Slices.{cut_for};
 
-    /// An array of `room` cells for `vertices` empty lists.
+    /// An array of `room` cells for `vertices` empty lists. It reserves all its memory here, and touches the cells only as
+    /// slices are cut.
     pub fn new(alloc: Global, vertices: u32, room: u32) -> Result<Slices, Memory>
         requires limit { room ≤ 196608 }
         ensures lists { IfOk result (λ s. s.lists ≡ replicate vertices []) }
@@ -56,11 +59,11 @@ impl Slices {
             Ok(rows) => rows,
             Err(_) => return Err(Memory),
         };
-        match vec![in alloc; 0; room as usize] {
+        match Vec::with_capacity(alloc, room as usize) {
             Ok(cells) => Ok(Slices {
                 rows,
                 cells,
-                used: 0,
+                room,
                 begun: 0,
             }),
             Err(_) => Err(Memory),
@@ -73,7 +76,7 @@ impl Slices {
         requires room { cut_for (appended self.old.lists v cell) ≤ self.old.room }
         ensures exact { self.new ≡ record self.old { lists = appended self.old.lists v cell } }
     {
-        let row = ready(self.rows[v as usize], &mut self.cells, &mut self.used);
+        let row = ready(self.rows[v as usize], &mut self.cells);
         self.cells[row.next as usize] = cell;
         self.rows[v as usize] = Row {
             degree: row.degree + 1,
@@ -113,7 +116,7 @@ impl Slices {
         ensures exact { self.new ≡ record self.old { lists = replicate (length self.old.lists) [] } }
     {
         empty(&mut self.rows, self.begun);
-        self.used = 0;
+        self.cells.clear();
         self.begun = 0;
     }
 }
@@ -134,21 +137,22 @@ fn empty(rows: &mut [Row], count: usize)
     rows[..count].fill(NO_SLICE);
 }
 
-/// The row with room for one more cell: where its slices are full, with a new slice at the end of those in use.
-fn ready(row: Row, cells: &mut Vec<u32>, used: &mut u32) -> Row
-    requires small { vec_len cells.old ≤ 196608 }
-    requires linked { row.degree ≡ row.full → 0 < row.full → row.next < vec_len cells.old }
-    requires room { row.degree ≡ row.full → used.old + row.full + 5 ≤ vec_len cells.old }
-    ensures spare { row.degree ≢ row.full → (result ≡ row) × (cells.new.items ≡ cells.old.items) × (used.new ≡ used.old) }
-    ensures opened { row.degree ≡ row.full → (result.degree ≡ row.degree) × (result.full ≡ 2 * row.full + 4) × (result.next ≡ used.old) × (used.new ≡ used.old + row.full + 5) }
-    ensures begun { row.degree ≡ row.full → row.full ≡ 0 → (result.first ≡ used.old) × (cells.new.items ≡ cells.old.items) }
-    ensures linked { row.degree ≡ row.full → 0 < row.full → (result.first ≡ row.first) × (cells.new.items ≡ slice_set cells.old.items row.next used.old) }
+/// The row with room for one more cell: where its slices are full, with a new slice behind those that are cut.
+fn ready(row: Row, cells: &mut Vec<u32>) -> Row
+    requires linked { row.degree ≡ row.full → 0 < row.full → row.next < length cells.old.items }
+    requires small { row.degree ≡ row.full → length cells.old.items + row.full + 5 ≤ 196608 }
+    requires room { row.degree ≡ row.full → length cells.old.items + row.full + 5 ≤ vec_capacity cells.old }
+    ensures spare { row.degree ≢ row.full → (result ≡ row) × (cells.new.items ≡ cells.old.items) }
+    ensures opened { row.degree ≡ row.full → (result.degree ≡ row.degree) × (result.full ≡ 2 * row.full + 4) × (result.next ≡ length cells.old.items) }
+    ensures begun { row.degree ≡ row.full → row.full ≡ 0 → (result.first ≡ length cells.old.items) × (cells.new.items ≡ cells.old.items ++ replicate (row.full + 5) 0) }
+    ensures linked { row.degree ≡ row.full → 0 < row.full → (result.first ≡ row.first) × (cells.new.items ≡ slice_set (cells.old.items ++ replicate (row.full + 5) 0) row.next (length cells.old.items)) }
+    ensures capacity { vec_capacity cells.old ≤ vec_capacity cells.new }
 {
     if row.degree != row.full {
         return row;
     }
-    let start = *used;
-    *used += row.full + 5;
+    let start = cells.len() as u32;
+    cut(cells, row.full as usize + 5);
     if row.full == 0 {
         return Row {
             degree: row.degree,
@@ -164,4 +168,14 @@ fn ready(row: Row, cells: &mut Vec<u32>, used: &mut u32) -> Row
         first: row.first,
         next: start,
     }
+}
+
+/// Makes the cells of one more slice and its link.
+#[inline]
+fn cut(cells: &mut Vec<u32>, size: usize)
+    requires { length cells.old.items + size ≤ vec_capacity cells.old }
+    ensures cells { cells.new.items ≡ cells.old.items ++ replicate size 0 }
+    ensures capacity { vec_capacity cells.old ≤ vec_capacity cells.new }
+{
+    cells.resize(cells.len() + size, 0).unwrap();
 }
