@@ -20,17 +20,7 @@ pub regrouped_nine : (o a b c d e f g h i : List ℕ)
     → (((((o ++ (a ++ b)) ++ (c ++ d)) ++ (e ++ f)) ++ g) ++ h) ++ i ≡ o ++ (a ++ b ++ c ++ d ++ e ++ f ++ g ++ h ++ i)
 regrouped_nine o a b c d e f g h i = simp append_assoc
 
--- three members and a last one
-pub regrouped_seven : (o a b c d e f g : List ℕ)
-    → (((o ++ (a ++ b)) ++ (c ++ d)) ++ (e ++ f)) ++ g ≡ o ++ (a ++ b ++ c ++ d ++ e ++ f ++ g)
-regrouped_seven o a b c d e f g = simp append_assoc
-
 -- three pieces, a member and a last one
 pub regrouped_item : (o a b c d e f : List ℕ)
     → ((((o ++ a) ++ b) ++ c) ++ (d ++ e)) ++ f ≡ o ++ (a ++ b ++ c ++ d ++ e ++ f)
 regrouped_item o a b c d e f = simp append_assoc
-
--- two members, two pieces and a last one
-pub regrouped_ranked : (o a b c d e f g : List ℕ)
-    → ((((o ++ (a ++ b)) ++ (c ++ d)) ++ e) ++ f) ++ g ≡ o ++ (a ++ b ++ c ++ d ++ e ++ f ++ g)
-regrouped_ranked o a b c d e f g = simp append_assoc
