@@ -11,8 +11,12 @@ returns c =
     (c.args.out.now.items ++ item_text c.args.item.now)
     c.put-3.ensures
     (rw (
-    c.in_ok-put_member.ensures, c.in_ok-put-2.ensures, c.in_ok-put.ensures, c.in_ok-put_two.ensures, c.name.ensures,
-    ← c.item.view_is
+      c.in_ok-put_member.ensures,
+      c.in_ok-put-2.ensures,
+      c.in_ok-put.ensures,
+      c.in_ok-put_two.ensures,
+      c.name.ensures,
+      ← c.item.view_is,
     ) (
     regrouped_item c.args.out.now.items
     (codes "{\"user\":" ++ decimal c.item.inside.user ++ codes ",\"post\":" ++ decimal c.item.inside.post)
