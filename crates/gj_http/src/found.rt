@@ -7,7 +7,7 @@ use crate::message::Method;
 use gj_base::Route;
 
 /// A route, with the text of the identifier, or of the place, where the path has one.
-#[derive(Clone, Copy, Debug)]
+#[derive(Clone, Copy)]
 pub struct Found<'a> {
     pub route: Route,
     pub id: Option<&'a str>,

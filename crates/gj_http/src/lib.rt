@@ -26,4 +26,3 @@ pub use laws::{
 pub use message::{Message, Method, Refused, Step};
 pub use responses::response;
 pub use routes::Routes;
-

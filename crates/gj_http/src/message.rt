@@ -12,7 +12,7 @@ pub enum Method {
 }
 
 /// A whole request, lent by the framer until its next call.
-#[derive(Clone, Copy, Debug)]
+#[derive(Clone, Copy)]
 pub struct Message<'a> {
     /// What the request line names.
     pub method: Method,
@@ -40,7 +40,7 @@ pub enum Refused {
 }
 
 /// What stands at the front of the held bytes.
-#[derive(Clone, Copy, Debug)]
+#[derive(Clone, Copy)]
 pub enum Step<'a> {
     /// A whole message, which the framer holds no more.
     Message(Message<'a>),

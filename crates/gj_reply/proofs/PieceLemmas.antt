@@ -10,3 +10,17 @@ ended (Err v) t1 t2 b target e same = e
 -- five pieces, put one after the other, as one
 pub regrouped : (o a b c d e : List ℕ) → ((((o ++ a) ++ b) ++ c) ++ d) ++ e ≡ o ++ (a ++ b ++ c ++ d ++ e)
 regrouped o a b c d e = simp append_assoc
+
+-- four pieces
+pub regrouped_four : (o a b c d : List ℕ) → (((o ++ a) ++ b) ++ c) ++ d ≡ o ++ (a ++ b ++ c ++ d)
+regrouped_four o a b c d = simp append_assoc
+
+-- three members, two pieces and a last one
+pub regrouped_nine : (o a b c d e f g h i : List ℕ)
+    → (((((o ++ (a ++ b)) ++ (c ++ d)) ++ (e ++ f)) ++ g) ++ h) ++ i ≡ o ++ (a ++ b ++ c ++ d ++ e ++ f ++ g ++ h ++ i)
+regrouped_nine o a b c d e f g h i = simp append_assoc
+
+-- three pieces, a member and a last one
+pub regrouped_item : (o a b c d e f : List ℕ)
+    → ((((o ++ a) ++ b) ++ c) ++ (d ++ e)) ++ f ≡ o ++ (a ++ b ++ c ++ d ++ e ++ f)
+regrouped_item o a b c d e f = simp append_assoc

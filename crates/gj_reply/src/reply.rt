@@ -17,7 +17,7 @@ pub struct KindCounts {
 }
 
 /// A reply or a refusal. `length` is the length of the history that was looked at, or after the batch for `Posted`.
-#[derive(Debug, Drop)]
+#[derive(Drop)]
 pub enum Reply {
     /// The batch stands in the history from this place on.
     Posted {
