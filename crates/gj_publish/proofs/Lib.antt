@@ -4,3 +4,4 @@ pub mod Growing
 pub mod Histories
 pub mod Panes
 pub mod Resuming
+pub mod Unmet
