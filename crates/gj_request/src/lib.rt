@@ -21,4 +21,3 @@ mod seeds;
 pub use name::Name;
 pub use refusal::{Reason, Refusal};
 pub use request::read_request;
-
