@@ -93,7 +93,7 @@ fn listed_units<G: Graph>(
     users: &Vertices,
     posts: &Vertices,
     iterations: u32,
-) -> Result<Vec<u64>, Memory>
+) -> Result<Vec<u32>, Memory>
     requires users { AreNumbered users.now }
     requires posts { AreNumbered posts.now }
     requires set { (user : ℕ) → contains nat_eq set.now user ≡ stands_in seeds.now user }
@@ -154,7 +154,7 @@ fn units_of(
     users: &Vertices,
     posts: &Vertices,
     iterations: u32,
-) -> Result<Vec<u64>, Memory>
+) -> Result<Vec<u32>, Memory>
     requires users { AreNumbered users.now }
     requires posts { AreNumbered posts.now }
     requires edges { length users.now.side.items ≡ length posts.now.side.items }
@@ -174,7 +174,7 @@ fn units_of(
 }
 
 /// The units of so many users at the start.
-pub fn started(alloc: Global, n: usize) -> Result<Vec<u64>, Memory>
+pub fn started(alloc: Global, n: usize) -> Result<Vec<u32>, Memory>
     ensures len { IfOk result (λ v. length v.items ≡ n) }
     ensures exact { IfOk result (λ v. v.items ≡ replicate n 1048576) }
 {
@@ -185,17 +185,17 @@ pub fn started(alloc: Global, n: usize) -> Result<Vec<u64>, Memory>
 }
 
 /// Gives the post its units, where it has any.
-fn put_mass(masses: &mut Masses, post: u64, units: u64) -> Result<(), Memory>
+fn put_mass(masses: &mut Masses, post: u64, units: u32) -> Result<(), Memory>
     ensures { OnOk result (masses.new ≡ (if units == 0 then masses.old else with_number masses.old post units)) }
 {
     if units == 0 {
         return Ok(());
     }
-    masses.put(post, units)
+    masses.put(post, u64::from(units))
 }
 
 /// The posts that have units, with these.
-fn masses(alloc: Global, posts: &Vertices, units: &[u64]) -> Result<Masses, Memory>
+fn masses(alloc: Global, posts: &Vertices, units: &[u32]) -> Result<Masses, Memory>
     requires posts { AreNumbered posts.now }
     requires len { length units.now ≡ length posts.now.names.items }
     ensures { IfOk result (λ masses. masses ≡ fold (with_mass (units_in posts.now.names.items units.now)) [] posts.now.names.items) }

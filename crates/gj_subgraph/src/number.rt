@@ -94,21 +94,22 @@ fn listed(alloc: Global, names: &Names) -> Result<Vec<u64>, Memory>
 }
 
 /// The vertices of the side, each once, and for each edge the number of its vertex among them.
-fn places_of(alloc: Global, side: &[u64]) -> Result<(Vec<u64>, Vec<usize>), Memory>
+fn places_of(alloc: Global, side: &[u64]) -> Result<(Vec<u64>, Vec<u32>), Memory>
+    ensures few { IfOk result (λ r. length side.now ≤ MOST_EDGES) }
     ensures names { IfOk result (λ r. r.0.items ≡ vertices side.now) }
     ensures places { IfOk result (λ r. ArePlaced side.now r.0.items r.1.items) }
 {
     let mut names = Names::new(alloc, room_for(side)?)?;
     let mut places = with_room(alloc, side.len())?;
     for id in side {
-        push(&mut places, names.put(*id) as usize)?;
+        push(&mut places, names.put(*id))?;
     }
     let ids = listed(alloc, &names)?;
     Ok((ids, places))
 }
 
 /// As many zeros.
-pub fn zeros(alloc: Global, n: usize) -> Result<Vec<u64>, Memory>
+pub fn zeros(alloc: Global, n: usize) -> Result<Vec<u32>, Memory>
     ensures len { IfOk result (λ v. length v.items ≡ n) }
     ensures zero { IfOk result (λ v. (u : ℕ) → slice_index v.items u ≡ 0) }
 {
@@ -119,9 +120,9 @@ pub fn zeros(alloc: Global, n: usize) -> Result<Vec<u64>, Memory>
 }
 
 /// Adds to the number at a place.
-pub fn add(values: &mut Vec<u64>, at: usize, x: u64)
+pub fn add(values: &mut Vec<u32>, at: usize, x: u32)
     requires in_range { at < length values.old.items }
-    requires fits { slice_index values.old.items at + x < 2 ^ 64 }
+    requires fits { slice_index values.old.items at + x < 2 ^ 32 }
     ensures { values.new.items ≡ slice_set values.old.items at (slice_index values.old.items at + x) }
 {
     values[at] += x;
@@ -132,15 +133,16 @@ fn degrees_of(
     alloc: Global,
     side: &[u64],
     names: &[u64],
-    places: &[usize],
-) -> Result<Vec<u64>, Memory>
+    places: &[u32],
+) -> Result<Vec<u32>, Memory>
+    requires few { length side.now ≤ MOST_EDGES }
     requires names { names.now ≡ vertices side.now }
     requires places { ArePlaced side.now names.now places.now }
     ensures { IfOk result (λ degrees. AreDegrees side.now names.now degrees.items) }
 {
     let mut degrees = zeros(alloc, names.len())?;
     for i in 0..places.len() {
-        add(&mut degrees, places[i], 1);
+        add(&mut degrees, places[i] as usize, 1);
     }
     Ok(degrees)
 }

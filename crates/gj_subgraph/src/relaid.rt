@@ -6,7 +6,7 @@ ghost use Rattle.gj_subgraph.specs.Numbers.{AreNumbers, AreNumbered, ArePlaced, 
 ghost use Rattle.gj_subgraph.specs.Regrouped.{AreRelaid, HaveSameEdges};
 
 use crate::masses::started;
-use crate::number::{number_of, push};
+use crate::number::{number_of, push, with_room};
 use crate::step::half_step;
 use crate::vertices::Vertices;
 use gj_base::Memory;
@@ -42,8 +42,8 @@ fn matched(alloc: Global, from: &Vertices, to: &Vertices) -> Result<Vec<usize>, 
     ensures { IfOk result (λ places. ArePlaced to.now.names.items from.now.names.items places.items) }
 {
     let numbers = numbers_of(alloc, from.side.as_slice())?;
-    let mut places = Vec::new(alloc);
     let names = to.names.as_slice();
+    let mut places = with_room(alloc, names.len())?;
     for k in 0..names.len() {
         push(&mut places, number_in(&numbers, names[k]))?;
     }
@@ -51,12 +51,12 @@ fn matched(alloc: Global, from: &Vertices, to: &Vertices) -> Result<Vec<usize>, 
 }
 
 /// The units by the numbers of another numbering.
-fn renumbered(alloc: Global, places: &[usize], units: &[u64]) -> Result<Vec<u64>, Memory>
+fn renumbered(alloc: Global, places: &[usize], units: &[u32]) -> Result<Vec<u32>, Memory>
     requires { (k : ℕ) → k < length places.now → slice_index places.now k < length units.now }
     ensures len { IfOk result (λ out. length out.items ≡ length places.now) }
     ensures exact { IfOk result (λ out. (k : ℕ) → k < length places.now → slice_index out.items k ≡ slice_index units.now (slice_index places.now k)) }
 {
-    let mut out = Vec::new(alloc);
+    let mut out = with_room(alloc, places.len())?;
     for k in 0..places.len() {
         push(&mut out, units[places[k]])?;
     }
@@ -72,8 +72,8 @@ fn next_units(
     back_users: &Vertices,
     to_posts: &[usize],
     to_users: &[usize],
-    units: &[u64],
-) -> Result<Vec<u64>, Memory>
+    units: &[u32],
+) -> Result<Vec<u32>, Memory>
     requires users { AreNumbered users.now }
     requires posts { AreNumbered posts.now }
     requires back_posts { AreNumbered back_posts.now }
@@ -82,7 +82,7 @@ fn next_units(
     requires to_posts { ArePlaced back_posts.now.names.items posts.now.names.items to_posts.now }
     requires to_users { ArePlaced users.now.names.items back_users.now.names.items to_users.now }
     requires units { length units.now ≡ length posts.now.names.items }
-    requires small { sum units.now < 2 ^ 63 }
+    requires small { sum units.now < 2 ^ 31 }
     ensures len { IfOk result (λ out. length out.items ≡ length posts.now.names.items) }
     ensures kept { IfOk result (λ out. sum out.items ≡ sum units.now) }
     ensures exact { IfOk result (λ out. (near far : List ℕ)
@@ -106,7 +106,7 @@ pub fn relaid_units(
     back_posts: &Vertices,
     back_users: &Vertices,
     iterations: u32,
-) -> Result<Vec<u64>, Memory>
+) -> Result<Vec<u32>, Memory>
     requires users { AreNumbered users.now }
     requires posts { AreNumbered posts.now }
     requires back_posts { AreNumbered back_posts.now }

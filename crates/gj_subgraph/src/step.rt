@@ -8,21 +8,8 @@ use crate::vertices::Vertices;
 use gj_base::Memory;
 use std::alloc::Global;
 
-/// The even part of the units that each edge of a vertex carries, and how many first edges carry one more. Most vertices have
-/// one edge, and a division is what a half step would wait for.
-fn divided(units: u64, degree: u64) -> (u64, u64)
-    requires { 0 < degree }
-    ensures { (result.0 ≡ units / degree) × (result.1 ≡ units % degree) }
-{
-    if degree == 1 {
-        (units, 0)
-    } else {
-        (units / degree, units % degree)
-    }
-}
-
 /// For each vertex the even part of its units that each edge carries, and how many first edges carry one more.
-fn parts_of(alloc: Global, degrees: &[u64], units: &[u64]) -> Result<(Vec<u64>, Vec<u64>), Memory>
+fn parts_of(alloc: Global, degrees: &[u32], units: &[u32]) -> Result<(Vec<u32>, Vec<u32>), Memory>
     requires same_len { length degrees.now ≡ length units.now }
     requires positive { (u : ℕ) → u < length units.now → 0 < slice_index degrees.now u }
     ensures parts_len { IfOk result (λ r. length r.0.items ≡ length units.now) }
@@ -33,18 +20,17 @@ fn parts_of(alloc: Global, degrees: &[u64], units: &[u64]) -> Result<(Vec<u64>, 
     let mut parts = with_room(alloc, units.len())?;
     let mut more = with_room(alloc, units.len())?;
     for u in 0..units.len() {
-        let (part, left) = divided(units[u], degrees[u]);
-        push(&mut parts, part)?;
-        push(&mut more, left)?;
+        push(&mut parts, units[u] / degrees[u])?;
+        push(&mut more, units[u] % degrees[u])?;
     }
     Ok((parts, more))
 }
 
 /// What the next edge of a vertex carries.
-fn take_part(parts: &[u64], more: &mut Vec<u64>, u: usize) -> u64
+fn take_part(parts: &[u32], more: &mut Vec<u32>, u: usize) -> u32
     requires parts { u < length parts.now }
     requires more { u < length more.old.items }
-    requires fits { slice_index parts.now u < 2 ^ 63 }
+    requires fits { slice_index parts.now u < 2 ^ 31 }
     ensures part { result ≡ slice_index parts.now u + min (slice_index more.old.items u) 1 }
     ensures more { more.new.items ≡ slice_set more.old.items u (slice_index more.old.items u - 1) }
 {
@@ -58,13 +44,13 @@ pub fn half_step(
     alloc: Global,
     near: &Vertices,
     far: &Vertices,
-    units: &[u64],
-) -> Result<Vec<u64>, Memory>
+    units: &[u32],
+) -> Result<Vec<u32>, Memory>
     requires near { AreNumbered near.now }
     requires far { AreNumbered far.now }
     requires edges { length near.now.side.items ≡ length far.now.side.items }
     requires units { length units.now ≡ length near.now.names.items }
-    requires small { sum units.now < 2 ^ 63 }
+    requires small { sum units.now < 2 ^ 31 }
     ensures len { IfOk result (λ out. length out.items ≡ length far.now.names.items) }
     ensures exact { IfOk result (λ out. units_in far.now.names.items out.items
         ≡ half_step near.now.side.items far.now.side.items (units_in near.now.names.items units.now)) }
@@ -75,8 +61,8 @@ pub fn half_step(
     let from = near.places.as_slice();
     let to = far.places.as_slice();
     for k in 0..from.len() {
-        let part = take_part(parts.as_slice(), &mut more, from[k]);
-        add(&mut out, to[k], part);
+        let part = take_part(parts.as_slice(), &mut more, from[k] as usize);
+        add(&mut out, to[k] as usize, part);
     }
     Ok(out)
 }

@@ -6,6 +6,6 @@
 pub struct Vertices {
     pub side: Vec<u64>,
     pub names: Vec<u64>,
-    pub degrees: Vec<u64>,
-    pub places: Vec<usize>,
+    pub degrees: Vec<u32>,
+    pub places: Vec<u32>,
 }

@@ -6,7 +6,7 @@ use Rattle.gj_subgraph.proofs.RelaidLemmas.{placed_next, placed_none}
 use Rattle.gj_subgraph.proofs.relaid.matched.Goals as goal
 
 pub loop-k-init : goal.loop-k-init
-loop-k-init c = rw (c.new-places.ensures.items) (placed_none c.args.from.now.names.items)
+loop-k-init c = rw (c.in_ok-places.ensures.empty) (placed_none c.args.from.now.names.items)
 
 pub loop-k-preserved : goal.loop-k-preserved
 loop-k-preserved c =
