@@ -1,4 +1,4 @@
-use Rattle.std.proofs.Common.{◌≡◌, ◌+◌, length, refl, ap, arith}
+use Rattle.std.proofs.Common.{◌≡◌, length, refl, ap, arith}
 use Rattle.gj_publish.proofs.opening.seated.Goals as goal
 
 pub loop-number-init : goal.loop-number-init
