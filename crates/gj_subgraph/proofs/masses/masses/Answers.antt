@@ -17,5 +17,5 @@ loop-u-preserved c =
     record {
       above = above_put pairs more post units put c.loop-u.invariant.above;
       made = mass_more posts.names.items c.args.units.now (fold with_pair [] pairs) (fold with_pair [] more) c.loop-u.u distinct c.requires.len inside
-      (made_put (nat_eq units 0) pairs more post units put) c.loop-u.invariant.made;
+          (made_put (nat_eq units 0) pairs more post units put) c.loop-u.invariant.made;
     }
