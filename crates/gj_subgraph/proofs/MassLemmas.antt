@@ -1,12 +1,14 @@
 -- From the window to the masses.
-use Rattle.std.proofs.Common.{◌≡◌, ℕ, suc, ◌+◌, ◌<◌, ◌≤◌, ◌∙◌, ◌++◌, ◌||◌, ◌&&◌, Bool, true, false, cond, nat_eq, List, [], ◌∷◌, length, fold, sum_by, take, get_or, map, filter, replicate, ap, sym, refl, arith}
+use Rattle.std.proofs.Common.{◌≡◌, ℕ, zero, suc, ◌+◌, ◌<◌, ◌≤◌, ◌∙◌, ◌++◌, ◌||◌, ◌&&◌, Bool, true, false, cond, nat_eq, List, [], ◌∷◌, All, length, fold, sum_by, take, get_or, map, filter, replicate, ap, sym, refl, arith}
+use Rattle.std.proofs.lemmas.Bool.{ne_eqb}
 use Rattle.std.proofs.lemmas.List.{take_more, take_all}
-use Rattle.std.proofs.lemmas.List.Sums.{sum_by-cons, fold_more}
+use Rattle.std.proofs.lemmas.List.Elements.{All-push}
+use Rattle.std.proofs.lemmas.List.Sums.{sum_by-cons, fold_more, fold-append}
 use mathlib.Core.Path.{fun_ext}
 use Rattle.gj_base.specs.declared.item.Item.{Item}
 use Rattle.gj_base.specs.declared.mask.Mask.{Mask}
 use Rattle.gj_base.specs.Ends.{passes}
-use Rattle.gj_base.specs.Tally.{with_number}
+use Rattle.gj_base.specs.Tally.{with_number, with_pair}
 use Rattle.gj_base.specs.Edges.{stands_in, edges_of}
 use Rattle.gj_subgraph.specs.Masses.{count_of, users_of, posts_of, half_step, vertices, spread, starting, with_mass}
 use Rattle.gj_subgraph.specs.Numbers.{units_in}
@@ -145,3 +147,16 @@ mass_more names units masses new u d l m e was =
     let one = fold_more (with_mass (units_in names units)) [] names u 0 m in
     let two : with_mass (units_in names units) masses (get_or names u 0) ≡ new = rw (here) (sym e) in
     sym two ∙ ap (λ p. with_mass (units_in names units) p (get_or names u 0)) was ∙ sym one
+
+-- the pair of a post that has units, put behind others
+pub above_put : (pairs more : List (ℕ × ℕ)) (post units : ℕ) → more ≡ cond (nat_eq units 0) pairs (pairs ++ (post, units) ∷ [])
+    → All (λ (x : ℕ × ℕ). 0 < x.1) pairs → All (λ (x : ℕ × ℕ). 0 < x.1) more
+above_put pairs more post zero e above = rw e above
+above_put pairs more post (suc n) e above =
+    let some : nat_eq (suc n) 0 ≡ false = ne_eqb (suc n) 0 (λ is. omega arith) in
+    rw (e, some) (All-push (λ (x : ℕ × ℕ). 0 < x.1) pairs (post, suc n) above (omega arith))
+
+pub made_put : (b : Bool) (pairs more : List (ℕ × ℕ)) (post units : ℕ) → more ≡ cond b pairs (pairs ++ (post, units) ∷ [])
+    → fold with_pair [] more ≡ cond b (fold with_pair [] pairs) (with_number (fold with_pair [] pairs) post units)
+made_put true pairs more post units e = ap (fold with_pair []) e
+made_put false pairs more post units e = ap (fold with_pair []) e ∙ fold-append with_pair [] pairs ((post, units) ∷ [])

@@ -1,8 +1,8 @@
 //! The masses of the posts.
-ghost use Rattle.std.specs.Prelude.{◌≡◌, ◌-◌, ◌*◌, ◌<◌, ◌≤◌, ℕ, [], fold, length, nat_eq, replicate, ◌==◌, if◌then◌else◌, IfOk, OnOk};
+ghost use Rattle.std.specs.Prelude.{◌≡◌, ◌-◌, ◌*◌, ◌<◌, ◌≤◌, ◌++◌, ◌∷◌, ℕ, [], fold, length, nat_eq, replicate, ◌==◌, if◌then◌else◌, IfOk, OnOk};
 ghost use Rattle.std.specs.HashSet.{contains};
 ghost use Rattle.gj_base.specs.Edges.{stands_in, edges_of};
-ghost use Rattle.gj_base.specs.Tally.{with_number, sum_of};
+ghost use Rattle.gj_base.specs.Tally.{sum_of};
 ghost use Rattle.gj_subgraph.specs.Masses.{users_of, posts_of, vertices, starting, spread, with_mass, total_after, masses_of};
 ghost use Rattle.gj_subgraph.specs.Numbers.{AreNumbered, units_in};
 ghost use Rattle.gj_subgraph.specs.Regrouped.{HaveSameEdges};
@@ -184,14 +184,14 @@ pub fn started(alloc: Global, n: usize) -> Result<Vec<u32>, Memory>
     }
 }
 
-/// Gives the post its units, where it has any.
-fn put_mass(masses: &mut Masses, post: u64, units: u32) -> Result<(), Memory>
-    ensures { OnOk result (masses.new ≡ (if units == 0 then masses.old else with_number masses.old post units)) }
+/// Puts the post with its units behind the other pairs, where it has any.
+fn put_mass(pairs: &mut Vec<(u64, u64)>, post: u64, units: u32) -> Result<(), Memory>
+    ensures { OnOk result (pairs.new.items ≡ (if units == 0 then pairs.old.items else pairs.old.items ++ (post, units) ∷ [])) }
 {
     if units == 0 {
         return Ok(());
     }
-    masses.put(post, u64::from(units))
+    push(pairs, (post, u64::from(units)))
 }
 
 /// The posts that have units, with these.
@@ -200,10 +200,10 @@ fn masses(alloc: Global, posts: &Vertices, units: &[u32]) -> Result<Masses, Memo
     requires len { length units.now ≡ length posts.now.names.items }
     ensures { IfOk result (λ masses. masses ≡ fold (with_mass (units_in posts.now.names.items units.now)) [] posts.now.names.items) }
 {
-    let mut masses = Tally::new(alloc);
     let names = posts.names.as_slice();
+    let mut pairs = with_room(alloc, names.len())?;
     for u in 0..names.len() {
-        put_mass(&mut masses, names[u], units[u])?;
+        put_mass(&mut pairs, names[u], units[u])?;
     }
-    Ok(masses)
+    Tally::of_pairs(alloc, pairs)
 }
