@@ -1,9 +1,11 @@
 -- The options of the commands, and their values.
-use Rattle.std.proofs.Common.{◌≡◌, ℕ, ◌&&◌, Bool, true, false, List, [], ◌∷◌, length, refl, arith}
-use Rattle.std.specs.Prelude.{Some, None}
-use Rattle.clap.specs.Faults.{is_simple_and_free}
+use Rattle.std.proofs.Common.{◌≡◌, ℕ, ◌&&◌, Bool, true, false, List, [], ◌∷◌, length, refl, sym, ◌∙◌, arith}
+use Rattle.std.specs.Prelude.{Option, Some, None, if◌then◌else◌}
+use Rattle.clap.specs.Faults.{fault_of, is_simple_and_free}
+use Rattle.clap.specs.Simple.{App, matches_of}
+use Rattle.clap.specs.Walk.{Row, Text, is_empty}
 use Rattle.gj_words.specs.Options.{replay_app, load_app, follow_app, serve_app}
-use Rattle.gj_words.specs.Tasks.{asked_of, service_of}
+use Rattle.gj_words.specs.Tasks.{asked_of, service_of, under}
 use Rattle.gj_words.specs.Values.{path_in}
 
 -- an empty path is refused
@@ -46,3 +48,11 @@ pub none_served : (words : List (List ℕ)) → length words ≡ 0 → service_o
 unfolding service_of
 none_served [] e = refl
 none_served (word ∷ words) e = absurd (omega arith)
+
+-- what a command's rows are read as, where clap takes the words
+pub under_taken : {A : Type 0} (given app : App) (reads : List Row → Option A) (words : List Text) (rows : List Row) (x : Option A) → given ≡ app → is_empty (fault_of given words) ≡ true → rows ≡ matches_of given words → x ≡ reads rows → under app reads words ≡ x
+under_taken given app reads words rows x same taken laid read = rw (← same, taken, ← laid) (sym read)
+
+-- where clap refuses the words, nothing is asked for
+pub under_refused : {A : Type 0} (given app : App) (reads : List Row → Option A) (words : List Text) → given ≡ app → is_empty (fault_of given words) ≡ false → under app reads words ≡ None
+under_refused given app reads words same refused = rw (← same, refused) refl

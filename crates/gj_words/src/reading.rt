@@ -27,13 +27,13 @@ fn why_of(error: &Error) -> WordsError
 
 /// What `clap` finds in the arguments by a command.
 pub(crate) fn matches_by<'a>(
-    command: &mut Command<'a>,
+    mut command: Command<'a>,
     words: &'a [String],
 ) -> Result<ArgMatches<'a>, WordsError>
-    requires { is_simple_and_free (app_of command.old) ≡ true }
-    ensures taken { IfOk result (λ m. is_empty (fault_of (app_of command.old) (map (λ w. string_bytes w) words.entry.now)) ≡ true) }
-    ensures rows { IfOk result (λ m. rows_of (found_of m) ≡ matches_of (app_of command.old) (map (λ w. string_bytes w) words.entry.now)) }
-    ensures usage { IsErrOf result why.Usage → is_empty (fault_of (app_of command.old) (map (λ w. string_bytes w) words.entry.now)) ≡ false }
+    requires { is_simple_and_free (app_of command) ≡ true }
+    ensures taken { IfOk result (λ m. is_empty (fault_of (app_of command.entry) (map (λ w. string_bytes w) words.entry.now)) ≡ true) }
+    ensures rows { IfOk result (λ m. rows_of (found_of m) ≡ matches_of (app_of command.entry) (map (λ w. string_bytes w) words.entry.now)) }
+    ensures usage { IsErrOf result why.Usage → is_empty (fault_of (app_of command.entry) (map (λ w. string_bytes w) words.entry.now)) ≡ false }
 {
     match command.try_get_matches_from_mut(words) {
         Ok(matches) => Ok(matches),
@@ -163,10 +163,10 @@ fn read_replay<'a>(alloc: Global, words: &'a [String]) -> Result<Task<'a>, Words
     ensures usage { IsErrOf result why.Usage → under replay_app replay_in (map (λ w. string_bytes w) words.entry.now) ≡ None }
     ensures in_range { IfOk result IsTask }
 {
-    let Ok(mut command) = replay_command(alloc) else {
+    let Ok(command) = replay_command(alloc) else {
         return Err(WordsError::Memory);
     };
-    let matches = matches_by(&mut command, words)?;
+    let matches = matches_by(command, words)?;
     match replay_option(&matches) {
         Some(task) => Ok(task),
         None => Err(WordsError::Usage),
@@ -178,10 +178,10 @@ fn read_load<'a>(alloc: Global, words: &'a [String]) -> Result<Task<'a>, WordsEr
     ensures usage { IsErrOf result why.Usage → under load_app load_in (map (λ w. string_bytes w) words.entry.now) ≡ None }
     ensures in_range { IfOk result IsTask }
 {
-    let Ok(mut command) = load_command(alloc) else {
+    let Ok(command) = load_command(alloc) else {
         return Err(WordsError::Memory);
     };
-    let matches = matches_by(&mut command, words)?;
+    let matches = matches_by(command, words)?;
     match load_option(&matches) {
         Some(task) => Ok(task),
         None => Err(WordsError::Usage),
@@ -193,10 +193,10 @@ fn read_follow<'a>(alloc: Global, words: &'a [String]) -> Result<Task<'a>, Words
     ensures usage { IsErrOf result why.Usage → under follow_app follow_in (map (λ w. string_bytes w) words.entry.now) ≡ None }
     ensures in_range { IfOk result IsTask }
 {
-    let Ok(mut command) = follow_command(alloc) else {
+    let Ok(command) = follow_command(alloc) else {
         return Err(WordsError::Memory);
     };
-    let matches = matches_by(&mut command, words)?;
+    let matches = matches_by(command, words)?;
     match follow_option(&matches) {
         Some(task) => Ok(task),
         None => Err(WordsError::Usage),

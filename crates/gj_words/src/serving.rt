@@ -44,10 +44,10 @@ fn read_options<'a>(alloc: Global, words: &'a [String]) -> Result<Service<'a>, W
     ensures usage { IsErrOf result why.Usage → under serve_app service_in (map (λ w. string_bytes w) words.entry.now) ≡ None }
     ensures in_range { IfOk result IsService }
 {
-    let Ok(mut command) = serve_command(alloc) else {
+    let Ok(command) = serve_command(alloc) else {
         return Err(WordsError::Memory);
     };
-    let matches = matches_by(&mut command, words)?;
+    let matches = matches_by(command, words)?;
     match service_option(&matches) {
         Some(service) => Ok(service),
         None => Err(WordsError::Usage),
