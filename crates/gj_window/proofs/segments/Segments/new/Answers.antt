@@ -1,4 +1,4 @@
-use Rattle.std.proofs.Common.{◌≡◌, ◌+◌, ◌*◌, ◌≤◌, ◌∙◌, List, ◌++◌, refl, ap, arith}
+use Rattle.std.proofs.Common.{◌∙◌, List, ◌++◌, refl, ap, arith}
 use Rattle.gj_base.specs.declared.item.Item.{Item}
 use Rattle.gj_window.proofs.FieldLemmas.{none_yet}
 use Rattle.gj_window.proofs.segments.Segments.new.Goals as goal
