@@ -1,5 +1,5 @@
 //! The segments of a window, in both forms.
-ghost use Rattle.std.specs.Prelude.{◌≡◌, ◌+◌, ◌≤◌, [], length, IfOk};
+ghost use Rattle.std.specs.Prelude.{◌≡◌, ◌+◌, ◌*◌, ◌≤◌, [], length, IfOk};
 ghost use Rattle.gj_base.specs.Configuration.{IsConfiguration};
 ghost use Rattle.gj_window.specs.Segments.{items_of, pooled_in, contiguous_in, any_of};
 
@@ -37,6 +37,15 @@ fn in_use(pool: &PoolSegment) -> u32
     if pool.len() == 0 { 0 } else { 1 }
 }
 
+/// How many identifiers have numbers at most.
+fn names_for(conf: Conf) -> u32
+    ensures room { conf.capacity * conf.segments + conf.capacity ≤ result }
+    ensures fits { result ≤ 8388608 }
+{
+    let room = conf.room();
+    room + room / 16 + 2 * conf.capacity()
+}
+
 impl Segments {
     /// No segment yet. It takes all memory that they will use.
     pub fn new(alloc: Global, conf: Conf) -> Result<Segments, Memory>
@@ -45,9 +54,7 @@ impl Segments {
         ensures in_range { IfOk result (λ _. IsConfiguration conf.capacity conf.segments) }
     {
         let capacity = conf.capacity();
-        let room = conf.room();
-        let names = room + room / 16 + 2 * capacity;
-        let directory = Directory::new(alloc, room, names)?;
+        let directory = Directory::new(alloc, conf.room(), names_for(conf))?;
         let older = PoolSegment::new(alloc, capacity)?;
         let newest = PoolSegment::new(alloc, capacity)?;
         Ok(Segments {
