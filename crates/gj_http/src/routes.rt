@@ -1,5 +1,5 @@
 //! The routes.
-ghost use Rattle.std.specs.Prelude.{◌≡◌, Some, None, Ok, Err, IfOk, IfErr, IfSome, IfNone, OnOk};
+ghost use Rattle.std.specs.Prelude.{◌≡◌, [], Some, None, Ok, Err, IfOk, IfErr, IfSome, IfNone, OnOk};
 ghost use Rattle.std.specs.Option.{option_copied};
 ghost use Rattle.gj_http.specs.Routes.{found_of, id_of, route_of};
 ghost use Rattle.gj_http.specs.Table.{table, with_row};
@@ -19,18 +19,9 @@ pub struct Routes {
 
 impl Routes {
     /// All routes. Only this call takes memory.
-    #[tactic(auto, unfolding(crate::specs::Table::table))]
     pub fn new(alloc: Global) -> Result<Routes, Memory> {
         let mut router = Router::new(alloc);
-        add(&mut router, "/interactions", Route::Interactions)?;
-        add(&mut router, "/walk", Route::Walk)?;
-        add(&mut router, "/subgraph", Route::Subgraph)?;
-        add(&mut router, "/similar", Route::Similar)?;
-        add(&mut router, "/count", Route::Count)?;
-        add(&mut router, "/users/{id}", Route::User)?;
-        add(&mut router, "/posts/{id}", Route::Post)?;
-        add(&mut router, "/stats", Route::Stats)?;
-        add(&mut router, "/log/{from}", Route::Log)?;
+        add_all(&mut router)?;
         Ok(Routes { router })
     }
 
@@ -69,6 +60,24 @@ fn add(router: &mut Router<Route>, pattern: &str, route: Route) -> Result<(), Me
         Ok(()) => Ok(()),
         Err(_) => Err(Memory),
     }
+}
+
+/// Adds all routes to a router of none.
+#[tactic(auto, unfolding(crate::specs::Table::table))]
+fn add_all(router: &mut Router<Route>) -> Result<(), Memory>
+    requires { router.old ≡ [] }
+    ensures { OnOk result (router.new ≡ table) }
+{
+    add(router, "/interactions", Route::Interactions)?;
+    add(router, "/walk", Route::Walk)?;
+    add(router, "/subgraph", Route::Subgraph)?;
+    add(router, "/similar", Route::Similar)?;
+    add(router, "/count", Route::Count)?;
+    add(router, "/users/{id}", Route::User)?;
+    add(router, "/posts/{id}", Route::Post)?;
+    add(router, "/stats", Route::Stats)?;
+    add(router, "/log/{from}", Route::Log)?;
+    Ok(())
 }
 
 /// The text of the identifier, or of the place, in the path of a route.
