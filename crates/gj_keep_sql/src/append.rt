@@ -23,6 +23,17 @@ pub fn write_conf<F: Alter>(connection: &mut Connection<F>, conf: KeptConf) -> R
     Ok(())
 }
 
+/// Writes a row by `INSERT`, whose parameters are in its order.
+pub fn insert_row<F: Alter>(
+    batch: &mut Transaction<'_, F>,
+    insert: &Statement,
+    row: [i64; 5],
+) -> Result<(), Error> {
+    let [place, user, post, kind, moment] = row;
+    batch.execute_prepared(insert, params![place, user, post, kind, moment])?;
+    Ok(())
+}
+
 fn insert_item<F: Alter>(
     batch: &mut Transaction<'_, F>,
     insert: &Statement,
@@ -33,8 +44,7 @@ fn insert_item<F: Alter>(
 {
     let (user, post, moment) = (item.user as i64, item.post as i64, item.at as i64);
     let kind = i64::from(item.kind.number());
-    batch.execute_prepared(insert, params![place as i64, user, post, kind, moment])?;
-    Ok(())
+    insert_row(batch, insert, [place as i64, user, post, kind, moment])
 }
 
 /// Writes the items at the places from `from` on, in one transaction.

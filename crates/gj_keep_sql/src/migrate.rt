@@ -1,11 +1,11 @@
 //! A store of the first version, brought to the second.
 
 use crate::answers::IN_TRANSACTION;
-use crate::append::INSERT;
+use crate::append::{INSERT, insert_row};
 use crate::numbers::{number_at, unsigned_at};
 use crate::reading::CONF;
 use gj_base::FIRST_VERSION;
-use sqlite::{Alter, Connection, Error, Row, Transaction, params};
+use sqlite::{Alter, Connection, Error, Row, Transaction};
 use std::alloc::Global;
 
 const FIRST_ROWS: &str = "SELECT place, usr, post, kind FROM kept ORDER BY place";
@@ -32,9 +32,13 @@ fn first_row(row: &Row) -> Result<FirstRow, Error> {
     })
 }
 
+fn is_first(row: &Row) -> Result<bool, Error> {
+    Ok(number_at(row, 0)? == FIRST_VERSION)
+}
+
 fn is_first_version<F: Alter>(store: &mut Transaction<'_, F>) -> Result<bool, Error> {
     match store.query_row(CONF, &[]) {
-        Ok(row) => Ok(number_at(&row, 0)? == FIRST_VERSION),
+        Ok(row) => is_first(&row),
         Err(Error::QueryReturnedNoRows) => Ok(false),
         Err(error) => Err(error),
     }
@@ -59,10 +63,7 @@ fn first_rows<F: Alter>(
 fn write_rows<F: Alter>(store: &mut Transaction<'_, F>, rows: &[FirstRow]) -> Result<(), Error> {
     let insert = store.prepare(INSERT)?;
     for row in rows {
-        store.execute_prepared(
-            &insert,
-            params![row.place, row.user, row.post, row.kind, 0i64],
-        )?;
+        insert_row(store, &insert, [row.place, row.user, row.post, row.kind, 0])?;
     }
     Ok(())
 }

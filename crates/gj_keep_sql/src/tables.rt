@@ -17,13 +17,16 @@ const KEPT2: &str =
 
 const IS_THERE: &str = "SELECT count(*) FROM sqlite_schema WHERE type = 'table' AND name = ?1";
 
+fn count_of<F: Alter>(store: &mut Transaction<'_, F>, name: &str) -> Result<i64, Error> {
+    store.query_row(IS_THERE, params![name])?.get(0)
+}
+
 fn make_table<F: Alter>(
     store: &mut Transaction<'_, F>,
     name: &str,
     statement: &str,
 ) -> Result<(), Error> {
-    let there: i64 = store.query_row(IS_THERE, params![name])?.get(0)?;
-    if there == 0 {
+    if count_of(store, name)? == 0 {
         store.execute(statement, &[])?;
     }
     Ok(())
