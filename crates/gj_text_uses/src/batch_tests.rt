@@ -128,8 +128,9 @@ fn long_batch(rt: &(impl Abort + AllocGlobal), count: u64) -> Result<String, Fai
 fn a_batch_has_at_most_4096_items(rt: HostRuntime) -> Result<(), Fail> {
     let body = long_batch(&rt, 4096)?;
     let items = batch_of(rt.alloc(), body.as_str()).ok_or("no batch")?;
+    let items = items.as_slice();
     assert_eq!(rt; items.len(), 4096);
-    assert_eq!(rt; items.as_slice()[4095].user, 4095);
+    assert_eq!(rt; items[4095].user, 4095);
     let body = long_batch(&rt, 4097)?;
     assert_eq!(rt;
         batch_refusal(rt.alloc(), body.as_str().as_bytes()),
@@ -143,7 +144,7 @@ const ITEM: &str = "{\"user\":1,\"post\":2,\"kind\":\"click\"}";
 /// The user, the post and the kind of the first interaction of a body, if it is one of batches.
 fn first_of(alloc: Global, body: &str) -> Option<(u64, u64, Kind)> {
     let items = batch_of(alloc, body)?;
-    let first = items.as_slice()[0];
+    let first = items.as_slice().first()?;
     Some((first.user, first.post, first.kind))
 }
 
