@@ -130,7 +130,8 @@ fn a_batch_has_at_most_4096_items(rt: HostRuntime) -> Result<(), Fail> {
     let items = batch_of(rt.alloc(), body.as_str()).ok_or("no batch")?;
     let items = items.as_slice();
     assert_eq!(rt; items.len(), 4096);
-    assert_eq!(rt; items[4095].user, 4095);
+    let last = items[4095];
+    assert_eq!(rt; last.user, 4095);
     let body = long_batch(&rt, 4097)?;
     assert_eq!(rt;
         batch_refusal(rt.alloc(), body.as_str().as_bytes()),
