@@ -1,5 +1,6 @@
 //! The best scores of shared posts.
-ghost use Rattle.std.specs.Prelude.{◌≡◌, ◌<◌, ◌≤◌, length, take, IfOk, OnOk};
+ghost use Rattle.std.specs.Prelude.{◌≡◌, ◌<◌, ◌≤◌, length, take, All, IsTrue, IfOk, OnOk};
+ghost use Rattle.std.specs.declared.cmp.Ordering.TheVariants.{Greater};
 ghost use Rattle.std.specs.BTreeSet.{insert_key, btree_set_len};
 ghost use Rattle.std.specs.List.Sorted.{IsStrictlySortedBy};
 ghost use Rattle.gj_base.specs.Ends.{ends};
@@ -10,6 +11,7 @@ use crate::score::{Score, ScoreList};
 use crate::steps::Shared;
 use gj_base::{Graph, Mask, Memory, Side};
 use std::alloc::Global;
+use std::cmp::Ordering;
 use std::collections::BTreeSet;
 
 /// The score of a post with so many co-visits.
@@ -23,11 +25,25 @@ fn score_of<G: Graph>(graph: &G, mask: Mask, post: u64, co: u64) -> Score
     Score { co, degree, post }
 }
 
-/// Puts the score in its place, and drops the last one where there are more than `top`.
+/// Whether the score comes after the last of these, and so after all. Where there are none, it says no.
+fn is_after_all(best: &BTreeSet<Score>, score: &Score) -> bool
+    ensures { IsTrue result → All (λ one. score_cmp score.now one ≡ Greater) best.now.keys }
+{
+    match best.last() {
+        Some(last) => score.cmp(last) == Ordering::Greater,
+        None => false,
+    }
+}
+
+/// Puts the score in its place, and drops the last one where there are more than `top`. A score that comes after `top`
+/// others is dropped at once.
 fn keep_best(best: &mut BTreeSet<Score>, score: Score, top: usize) -> Result<(), Memory>
     requires { btree_set_len best.old ≤ top }
     ensures { OnOk result (best.new.keys ≡ take top (insert_key score_cmp best.old.keys score)) }
 {
+    if best.len() == top && is_after_all(best, &score) {
+        return Ok(());
+    }
     if best.insert(score).is_err() {
         return Err(Memory);
     }

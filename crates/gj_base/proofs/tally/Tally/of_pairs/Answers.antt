@@ -1,7 +1,6 @@
 use Rattle.std.proofs.Common.{◌≡◌, ℕ, ◌∙◌, List, None, ap}
 use Rattle.std.specs.Ordering.{nat_cmp, eq_by_cmp}
-use Rattle.std.specs.Map.{lookup, update_all}
-use Rattle.std.specs.BTreeMap.{is_at}
+use Rattle.std.specs.Map.{update_all}
 use Rattle.std.proofs.IntoIterSteps.{All-taken}
 use Rattle.gj_base.proofs.PairLemmas.{is_tally_found, pairs_found}
 use Rattle.gj_base.proofs.tally.Tally.of_pairs.Goals as goal
