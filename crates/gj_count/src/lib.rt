@@ -7,7 +7,5 @@
 mod counting;
 mod post_sums;
 mod seed_sum;
-#[cfg(test)]
-mod tests;
 
 pub use counting::{Weights, count_second};

@@ -9,8 +9,6 @@ mod page;
 mod paging;
 mod reading;
 mod table;
-#[cfg(test)]
-mod tests;
 
 pub use follower::{Follower, PageTaken};
 pub use page::{MAX_PAGE, Page};

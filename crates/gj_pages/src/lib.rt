@@ -9,8 +9,6 @@ mod end;
 mod following;
 mod line;
 mod sending;
-#[cfg(test)]
-mod tests;
 
 pub use end::FollowEnd;
 pub use following::follow_lines;

@@ -1,6 +1,8 @@
-//! Walks, subgraphs, similar posts and proofs over the plain graph, in tests.
+//! Walks, subgraphs, similar posts, counts and proofs over the plain graph, in tests.
 #![tactic(auto)]
 
+#[cfg(test)]
+mod count_tests;
 #[cfg(test)]
 mod proof_tests;
 #[cfg(test)]

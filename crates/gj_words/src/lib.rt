@@ -9,8 +9,6 @@ mod options;
 mod reading;
 mod serving;
 mod task;
-#[cfg(test)]
-mod tests;
 
 pub use reading::read_words;
 pub use serving::read_service;

@@ -1,6 +1,6 @@
-//! The forms of arguments.
+//! The forms of the program's arguments.
 
-use crate::{Service, Task, WordsError, read_service, read_words};
+use gj_words::{Service, Task, WordsError, read_service, read_words};
 use std::alloc::{AllocError, Global};
 use std::test::Fail;
 

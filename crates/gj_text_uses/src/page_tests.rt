@@ -1,5 +1,6 @@
-use super::*;
+//! Pages of a history, and a follower that takes them.
 use gj_base::{Conf, Graph, Grow, HISTORY_END, Item, Kind, ListGraph, Memory};
+use gj_follow::{Follower, Page, PageError, PageRefusal, PageTaken, page_of, read_page};
 use std::alloc::Global;
 use std::process::Abort;
 use std::test::Fail;

@@ -1,6 +1,7 @@
-use super::*;
+//! Lines of pages, from an input to an output.
 use gj_base::{Conf, Graph, ListGraph, MemorySink, MemorySource};
 use gj_follow::Follower;
+use gj_pages::{FollowEnd, follow_lines};
 use std::alloc::Global;
 use std::process::Abort;
 use std::test::Fail;

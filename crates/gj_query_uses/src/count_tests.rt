@@ -1,9 +1,10 @@
+//! Posts by the weights of the seeds, counted.
 ghost use Rattle.std.specs.Prelude.{◌≡◌, ◌∷◌, [], IfOk};
 
-use crate::{Weights, count_second};
 use gj_base::{
     Conf, CountAsk, Graph, Grow, IdList, Item, Kind, KindLeast, ListGraph, Mask, Memory,
 };
+use gj_count::{Weights, count_second};
 use std::alloc::Global;
 use std::process::Abort;
 use std::test::Fail;
