@@ -1,5 +1,1 @@
-pub mod AskedLemmas
-pub mod FollowLemmas
-pub mod ReplayLemmas
 pub mod SendLemmas
-pub mod ServeLemmas

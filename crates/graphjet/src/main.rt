@@ -3,36 +3,9 @@
 //! is kept in an SQLite file.
 #![tactic(auto)]
 
-mod arguments;
-mod devices;
-#[cfg(test)]
-mod edge_tests;
-#[cfg(test)]
-mod follow_tests;
-mod following;
-mod lines;
-mod loading;
-mod local;
-#[cfg(test)]
-mod number_tests;
-mod replaying;
-mod run_status;
-#[cfg(test)]
-mod serve_tests;
-mod serving;
-#[cfg(test)]
-mod store_tests;
-#[cfg(test)]
-mod tests;
-#[cfg(test)]
-mod window_tests;
-
-use crate::arguments::words_of;
-use crate::devices::{StreamSink, StreamSource};
-use crate::local::{report, run_local};
-use crate::serving::{Ended, run_serve};
 use gj_base::Sink;
 use gj_keep_sql::SqlKeepers;
+use gj_program::{Ended, StreamSink, StreamSource, report, run_local, run_serve, words_of};
 use gj_publish::Grants;
 use gj_serve::TcpDoor;
 use std::net::{Net, TcpListener, TcpStream};

@@ -1,0 +1,4 @@
+pub mod AskedLemmas
+pub mod FollowLemmas
+pub mod ReplayLemmas
+pub mod ServeLemmas

@@ -1,5 +1,0 @@
-use Rattle.graphjet.proofs.ServeLemmas.{does_lack}
-use Rattle.graphjet.proofs.serving.obey.Goals as goal
-
-pub returns-in-Err-Memory-clause-does : goal.returns-in-Err-Memory-clause-does
-returns-in-Err-Memory-clause-does g c = does_lack _ _ _ _ _
