@@ -14,4 +14,5 @@ mod scribe;
 pub use front::Front;
 pub use law::{Law, Posting};
 pub use naming::{Naming, Opening};
+pub use pages::BlankBook;
 pub use scribe::Scribe;

@@ -22,7 +22,7 @@ use crate::seat::Seat;
 use crate::writer::Writer;
 use gj_base::{Conf, Graph, Grow, Keeper, KeptItem};
 use gj_keep::{Book, OpenError, OpenRefused};
-use gj_log::{Front, Naming, Opening, Scribe};
+use gj_log::{BlankBook, Front, Naming, Opening, Scribe};
 use gj_once::Once;
 use left_right::WriteHandle;
 use std::alloc::Global;
@@ -73,13 +73,73 @@ fn seated<J: Opening, W: Grow + Drop, R: Wait + Drop>(
     Ok(seats)
 }
 
-// What an opening is made of.
-struct Parts<J: Opening, W: Grow + Drop, C> {
-    copies: C,
+// The history of an opening, under its log, of which no seat posted anything and no batch is noted.
+#[derive(Drop)]
+struct Begun<J: Opening> {
     scribe: Scribe<J>,
-    ledger: Ledger<J>,
     counted: Counted,
     once: Once,
+}
+
+// The history of the rows.
+fn begun_with<J: Opening>(
+    alloc: Global,
+    book: BlankBook,
+    rows: &Snapshot<Vec<KeptItem>>,
+    until: u64,
+    places: u32,
+) -> Result<Begun<J>, OpenError>
+    requires book { book ≡ J.book }
+    requires until { (until ≡ length_of (opened rows.now.value.items)) × (until ≤ 2 ^ 48) }
+    ensures scribe { IfOk result (λ b. b.scribe ≡ record { opening = opened rows.now.value.items; history = opened rows.now.value.items; ready = false }) }
+    ensures counted { IfOk result (λ b. b.counted ≡ replicate places 0) }
+    ensures once { IfOk result (λ b. b.once ≡ nothing_noted) }
+    ensures err { IfErr result (λ why. why ≡ Memory) }
+{
+    let Some(scribe) = Scribe::<J>::begin(book, rows, until) else {
+        return Err(OpenError::Memory);
+    };
+    let Some(counted) = Counted::zeros(alloc, places) else {
+        return Err(OpenError::Memory);
+    };
+    let Ok(once) = Once::new(alloc) else {
+        return Err(OpenError::Memory);
+    };
+    Ok(Begun {
+        scribe,
+        counted,
+        once,
+    })
+}
+
+// The copies, of two graphs that both stand for the front.
+fn copies_of<J: Opening, W: Grow + Drop, R: Wait + Drop>(
+    rt: R,
+    alloc: Global,
+    front: &Front<J>,
+    first: W,
+    second: W,
+    places: u32,
+) -> Result<WriteHandle<Pane<W, J>, Batch<J>, R>, OpenError>
+    requires places { (1 ≤ places) × (places ≤ 16) }
+    requires graphs { StandsFor (W.shown first) front.now × StandsFor (W.shown second) front.now }
+    requires conf { (conf_of (W.shown first) ≡ J.conf) × (conf_of (W.shown second) ≡ J.conf) }
+    ensures ok { IfOk result (λ copies. (pending copies ≡ []) × (published copies ≡ front.now)) }
+    ensures err { IfErr result (λ why. why ≡ Memory) }
+{
+    let first = first_pane(first, front.again());
+    let second = first_pane(second, front.again());
+    match WriteHandle::new(alloc, rt, first, second, places as usize) {
+        Ok(copies) => Ok(copies),
+        Err(_) => Err(OpenError::Memory),
+    }
+}
+
+// What an opening is made of.
+struct Parts<J: Opening, W: Grow + Drop, C> {
+    begun: Begun<J>,
+    copies: C,
+    ledger: Ledger<J>,
     seats: Vec<Seat<W, J>>,
 }
 
@@ -102,9 +162,9 @@ fn parts_of<J: Opening, W: Grow + Drop, R: Wait + Drop>(
     requires conf { (conf_of (W.shown first) ≡ J.conf) × (conf_of (W.shown second) ≡ J.conf) }
     requires grants { grants.old < 2 ^ 40 }
     ensures copies { IfOk result (λ r. (pending r.copies ≡ []) × (published r.copies ≡ opened rows.now.value.items)) }
-    ensures scribe { IfOk result (λ r. r.scribe ≡ record { opening = opened rows.now.value.items; history = opened rows.now.value.items; ready = false }) }
-    ensures ledger { IfOk result (λ r. (r.ledger.total ≡ 0) × (r.counted ≡ replicate places 0)) }
-    ensures once { IfOk result (λ r. r.once ≡ nothing_noted) }
+    ensures scribe { IfOk result (λ r. r.begun.scribe ≡ record { opening = opened rows.now.value.items; history = opened rows.now.value.items; ready = false }) }
+    ensures ledger { IfOk result (λ r. (r.ledger.total ≡ 0) × (r.begun.counted ≡ replicate places 0)) }
+    ensures once { IfOk result (λ r. r.begun.once ≡ nothing_noted) }
     ensures all { IfOk result (λ r. length r.seats.items ≡ places) }
     ensures each { IfOk result (λ r. (i : ℕ) (d : _) → i < places → slice_index_or r.seats.items i d ≡ record { number = i + 1; front = opened rows.now.value.items; posted = 0; numbers = no_numbers }) }
     ensures same { IfOk result (λ _. grants.new ≡ grants.old) }
@@ -114,36 +174,15 @@ fn parts_of<J: Opening, W: Grow + Drop, R: Wait + Drop>(
     ensures later { grants.old ≤ grants.new }
 {
     let Naming { blank, history } = naming;
-    let Some(scribe) = Scribe::<J>::begin(history, rows, until) else {
-        return Err(OpenError::Memory);
-    };
-    let Some(counted) = Counted::zeros(alloc, places) else {
-        return Err(OpenError::Memory);
-    };
-    let Ok(once) = Once::new(alloc) else {
-        return Err(OpenError::Memory);
-    };
-    let front = scribe.front();
-    let first = first_pane(first, front.again());
-    let second = first_pane(second, front.again());
-    let made: Result<WriteHandle<Pane<W, J>, Batch<J>, R>, _> = WriteHandle::new(
-        alloc,
-        rt,
-        first,
-        second,
-        places as usize,
-    );
-    let Ok(copies) = made else {
-        return Err(OpenError::Memory);
-    };
+    let begun = begun_with::<J>(alloc, history, rows, until, places)?;
+    let front = begun.scribe.front();
+    let copies = copies_of::<J, W, R>(rt, alloc, &front, first, second, places)?;
     let (ledger, share) = blank.open::<J>();
     let seats = seated(alloc, &copies, &front, share, places, grants)?;
     Ok(Parts {
+        begun,
         copies,
-        scribe,
         ledger,
-        counted,
-        once,
         seats,
     })
 }
@@ -225,13 +264,16 @@ pub fn open_index<J: Opening, K: Keeper + Drop, W: Grow + Drop, R: Wait + Drop>(
     ) {
         Ok(parts) => {
             let Parts {
+                begun,
                 copies,
-                scribe,
                 ledger,
-                counted,
-                once,
                 seats,
             } = parts;
+            let Begun {
+                scribe,
+                counted,
+                once,
+            } = begun;
             Ok((
                 Writer::new(alloc, copies, scribe, ledger, book, counted, once, &rows),
                 seats,
