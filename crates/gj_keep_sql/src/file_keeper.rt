@@ -1,5 +1,9 @@
 //! A keeper over a file.
 
+use crate::append::{AppendRows, DropBelow, WriteConf};
+use crate::calls::Call;
+use crate::migrate::Migrate;
+use crate::reading::{ReadConf, ReadRows};
 use crate::sql_keeper::SqlKeeper;
 use gj_base::{Item, KeepError, Keeper, KeptConf, KeptItem};
 use sqlite::{File, FileStore};
@@ -21,7 +25,8 @@ impl Model for FileKeeper {
 }
 
 impl FileKeeper {
-    ghost use Rattle.std.specs.Prelude.{◌≡◌};
+    ghost use Rattle.std.specs.Prelude.{◌≡◌, ◌≤◌};
+    ghost use Rattle.gj_base.specs.Causes.{faults_after};
 
     /// The keeper over a connection to the file.
     pub(crate) fn over(keeper: SqlKeeper<FileStore<File>>) -> FileKeeper
@@ -37,6 +42,14 @@ impl FileKeeper {
         let FileKeeper { keeper } = self;
         keeper.close()
     }
+
+    /// Makes the call. Each call comes through here, so that the connection's type is met in one proof alone.
+    fn run<C: Call>(&mut self, call: C) -> Result<C::Answer, KeepError>
+        ensures count { self.new ≡ faults_after self.old result }
+        ensures later { self.old ≤ self.new }
+    {
+        self.keeper.run(call)
+    }
 }
 
 impl Keeper for FileKeeper {
@@ -51,26 +64,28 @@ impl Keeper for FileKeeper {
     ghost steady = { λ _. false };
 
     fn conf(&mut self) -> Result<Option<KeptConf>, KeepError> {
-        self.keeper.conf()
+        self.run(ReadConf)
     }
 
     fn set_conf(&mut self, conf: KeptConf) -> Result<(), KeepError> {
-        self.keeper.set_conf(conf)
+        self.run(WriteConf { conf })
     }
 
     fn rows(&mut self, alloc: Global) -> Result<Vec<KeptItem>, KeepError> {
-        self.keeper.rows(alloc)
+        self.run(ReadRows { alloc })
     }
 
     fn append(&mut self, from: u64, items: &[Item]) -> Result<(), KeepError> {
-        self.keeper.append(from, items)
+        self.run(AppendRows { from, items })
     }
 
     fn trim(&mut self, below: u64) -> Result<(), KeepError> {
-        self.keeper.trim(below)
+        self.run(DropBelow { below })
     }
 
     fn migrate(&mut self) -> Result<(), KeepError> {
-        self.keeper.migrate()
+        self.run(Migrate {
+            alloc: self.keeper.alloc,
+        })
     }
 }

@@ -2,6 +2,7 @@
 
 use crate::answers::IN_TRANSACTION;
 use crate::append::{INSERT, insert_row};
+use crate::calls::Call;
 use crate::numbers::{number_at, unsigned_at};
 use crate::reading::CONF;
 use gj_base::FIRST_VERSION;
@@ -70,17 +71,26 @@ fn write_rows<F: Alter>(store: &mut Transaction<'_, F>, rows: &[FirstRow]) -> Re
 
 /// Where the version is the first, writes its rows under the second, in one transaction. A row with a negative number
 /// is refused.
-pub fn migrate_rows<F: Alter>(connection: &mut Connection<F>, alloc: Global) -> Result<(), Error> {
-    if !connection.is_autocommit() {
-        return Err(IN_TRANSACTION);
+pub struct Migrate {
+    pub alloc: Global,
+}
+
+impl Call for Migrate {
+    type Answer = ();
+
+    fn run<F: Alter>(self, connection: &mut Connection<F>) -> Result<(), Error> {
+        let Migrate { alloc } = self;
+        if !connection.is_autocommit() {
+            return Err(IN_TRANSACTION);
+        }
+        let mut store = connection.transaction();
+        if !is_first_version(&mut store)? {
+            return Ok(());
+        }
+        let rows = first_rows(&mut store, alloc)?;
+        write_rows(&mut store, &rows)?;
+        store.execute(EMPTY, &[])?;
+        store.execute(SECOND_VERSION, &[])?;
+        store.commit()
     }
-    let mut store = connection.transaction();
-    if !is_first_version(&mut store)? {
-        return Ok(());
-    }
-    let rows = first_rows(&mut store, alloc)?;
-    write_rows(&mut store, &rows)?;
-    store.execute(EMPTY, &[])?;
-    store.execute(SECOND_VERSION, &[])?;
-    store.commit()
 }

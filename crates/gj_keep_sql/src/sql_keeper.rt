@@ -1,9 +1,10 @@
 //! A keeper over one connection.
 
 use crate::answers::counted;
-use crate::append::{append_rows, drop_below, write_conf};
-use crate::migrate::migrate_rows;
-use crate::reading::{kept_conf, kept_rows};
+use crate::append::{AppendRows, DropBelow, WriteConf};
+use crate::calls::Call;
+use crate::migrate::Migrate;
+use crate::reading::{ReadConf, ReadRows};
 use crate::tables::make_tables;
 use gj_base::{Item, KeepError, Keeper, KeptConf, KeptItem};
 use sqlite::{Alter, Connection, File, FileStore};
@@ -14,7 +15,7 @@ use std::marker::Model;
 #[derive(Drop)]
 pub struct SqlKeeper<F: Alter> {
     connection: Connection<F>,
-    alloc: Global,
+    pub(crate) alloc: Global,
     faults: u64,
 }
 
@@ -50,16 +51,30 @@ impl<F: Alter + Drop> SqlKeeper<F> {
             faults: 0,
         })
     }
+}
 
-    /// The connection, for a test that looks at what is left.
-    #[cfg(test)]
-    pub(crate) fn into_connection(self) -> Connection<F> {
+impl<F: Alter> SqlKeeper<F> {
+    ghost use Rattle.std.specs.Prelude.{◌≡◌, ◌≤◌};
+    ghost use Rattle.gj_base.specs.Causes.{faults_after};
+
+    /// The connection, for a caller that goes on without a keeper, and the count of the keeper's faults.
+    pub fn release(self) -> (Connection<F>, u64)
+        ensures { result.1 ≡ self }
+    {
         let SqlKeeper {
             connection,
             alloc: _,
-            faults: _,
+            faults,
         } = self;
-        connection
+        (connection, faults)
+    }
+
+    /// Makes the call, and counts a refusal, unless it is for want of memory.
+    pub(crate) fn run<C: Call>(&mut self, call: C) -> Result<C::Answer, KeepError>
+        ensures count { self.new ≡ faults_after self.old result }
+        ensures later { self.old ≤ self.new }
+    {
+        counted(call.run(&mut self.connection), &mut self.faults)
     }
 
     /// Has its count go on from this one.
@@ -82,33 +97,27 @@ impl<F: Alter> Keeper for SqlKeeper<F> {
     ghost steady = { λ _. false };
 
     fn conf(&mut self) -> Result<Option<KeptConf>, KeepError> {
-        counted(kept_conf(&mut self.connection), &mut self.faults)
+        self.run(ReadConf)
     }
 
     fn set_conf(&mut self, conf: KeptConf) -> Result<(), KeepError> {
-        counted(write_conf(&mut self.connection, conf), &mut self.faults)
+        self.run(WriteConf { conf })
     }
 
     fn rows(&mut self, alloc: Global) -> Result<Vec<KeptItem>, KeepError> {
-        counted(kept_rows(&mut self.connection, alloc), &mut self.faults)
+        self.run(ReadRows { alloc })
     }
 
     fn append(&mut self, from: u64, items: &[Item]) -> Result<(), KeepError> {
-        counted(
-            append_rows(&mut self.connection, from, items),
-            &mut self.faults,
-        )
+        self.run(AppendRows { from, items })
     }
 
     fn trim(&mut self, below: u64) -> Result<(), KeepError> {
-        counted(drop_below(&mut self.connection, below), &mut self.faults)
+        self.run(DropBelow { below })
     }
 
     fn migrate(&mut self) -> Result<(), KeepError> {
-        counted(
-            migrate_rows(&mut self.connection, self.alloc),
-            &mut self.faults,
-        )
+        self.run(Migrate { alloc: self.alloc })
     }
 }
 
@@ -119,11 +128,7 @@ impl SqlKeeper<FileStore<File>> {
     pub(crate) fn close(self) -> u64
         ensures { result ≡ self }
     {
-        let SqlKeeper {
-            connection,
-            alloc: _,
-            faults,
-        } = self;
+        let (connection, faults) = self.release();
         let _ = connection.close();
         faults
     }
