@@ -57,6 +57,20 @@ fn insert_item<F: Alter>(
     insert_row(batch, insert, [place as i64, user, post, kind, moment])
 }
 
+fn insert_items<F: Alter>(
+    batch: &mut Transaction<'_, F>,
+    insert: &Statement,
+    from: u64,
+    items: &[Item],
+) -> Result<(), Error>
+    requires { from + length items.now ≤ 2 ^ 48 }
+{
+    for i in 0..items.len() {
+        insert_item(batch, insert, from + i as u64, items[i])?;
+    }
+    Ok(())
+}
+
 /// Writes the items at the places from `from` on, in one transaction.
 pub struct AppendRows<'a> {
     pub from: u64,
@@ -74,9 +88,7 @@ impl Call for AppendRows<'_> {
         }
         let mut batch = connection.transaction();
         let insert = batch.prepare(INSERT)?;
-        for i in 0..items.len() {
-            insert_item(&mut batch, &insert, from + i as u64, items[i])?;
-        }
+        insert_items(&mut batch, &insert, from, items)?;
         batch.commit()
     }
 }

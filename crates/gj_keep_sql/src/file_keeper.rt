@@ -6,7 +6,7 @@ use crate::migrate::Migrate;
 use crate::reading::{ReadConf, ReadRows};
 use crate::sql_keeper::SqlKeeper;
 use gj_base::{Item, KeepError, Keeper, KeptConf, KeptItem};
-use sqlite::{File, FileStore};
+use sqlite::{Connection, File, FileStore};
 use std::alloc::Global;
 use std::marker::Model;
 
@@ -25,14 +25,24 @@ impl Model for FileKeeper {
 }
 
 impl FileKeeper {
-    ghost use Rattle.std.specs.Prelude.{◌≡◌, ◌≤◌};
+    ghost use Rattle.std.specs.Prelude.{◌≡◌, ◌≤◌, IfOk};
     ghost use Rattle.gj_base.specs.Causes.{faults_after};
 
-    /// The keeper over a connection to the file.
-    pub(crate) fn over(keeper: SqlKeeper<FileStore<File>>) -> FileKeeper
-        ensures { result ≡ keeper }
+    /// The keeper over the file at the path, which is made where it isn't there. Its count goes on from this one; refusals
+    /// are counted in `faults`.
+    pub(crate) fn open(
+        rt: &HostRuntime,
+        alloc: Global,
+        path: &str,
+        count: u64,
+        faults: &mut u64,
+    ) -> Result<FileKeeper, KeepError>
+        ensures ok { IfOk result (λ keeper. keeper ≡ count) }
+        ensures count { faults.new ≡ faults_after faults.old result }
     {
-        FileKeeper { keeper }
+        let opened = Connection::open(rt, path);
+        let keeper = SqlKeeper::adopt_files(alloc, opened, count, faults)?;
+        Ok(FileKeeper { keeper })
     }
 
     /// Copies the log beside the file into it, closes both, and gives the count. Where the copy fails, all is in the log.
@@ -48,7 +58,7 @@ impl FileKeeper {
         ensures count { self.new ≡ faults_after self.old result }
         ensures later { self.old ≤ self.new }
     {
-        self.keeper.run(call)
+        self.keeper.run_files(call)
     }
 }
 

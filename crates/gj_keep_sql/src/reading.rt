@@ -3,7 +3,7 @@
 use crate::calls::Call;
 use crate::numbers::number_at;
 use gj_base::{KeptConf, KeptItem};
-use sqlite::{Alter, Connection, Error, Row};
+use sqlite::{Alter, Connection, Error, Row, Rows};
 use std::alloc::Global;
 
 /// The configuration.
@@ -45,7 +45,18 @@ fn kept_item(row: &Row) -> Result<KeptItem, Error> {
     })
 }
 
-/// Reads all rows of the second version, by their places, one at a time.
+/// Adds the rows that are left, one at a time.
+fn read_rows<F: Alter>(rows: &mut Rows<'_, F>, kept: &mut Vec<KeptItem>) -> Result<(), Error> {
+    for _ in 0..u64::MAX {
+        let Some(row) = rows.next()? else {
+            break;
+        };
+        kept.push(kept_item(row)?)?;
+    }
+    Ok(())
+}
+
+/// Reads all rows of the second version, by their places.
 pub struct ReadRows {
     pub alloc: Global,
 }
@@ -57,12 +68,7 @@ impl Call for ReadRows {
         let ReadRows { alloc } = self;
         let mut kept = Vec::new(alloc);
         let mut rows = connection.query(ROWS, &[])?;
-        for _ in 0..u64::MAX {
-            let Some(row) = rows.next()? else {
-                break;
-            };
-            kept.push(kept_item(row)?)?;
-        }
+        read_rows(&mut rows, &mut kept)?;
         Ok(kept)
     }
 }

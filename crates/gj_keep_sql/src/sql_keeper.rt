@@ -7,7 +7,8 @@ use crate::migrate::Migrate;
 use crate::reading::{ReadConf, ReadRows};
 use crate::tables::make_tables;
 use gj_base::{Item, KeepError, Keeper, KeptConf, KeptItem};
-use sqlite::{Alter, Connection, File, FileStore};
+use sqlite::{Alter, Connection, Error, FileStore};
+use sqlite_disk::Disk;
 use std::alloc::Global;
 use std::marker::Model;
 
@@ -51,6 +52,22 @@ impl<F: Alter + Drop> SqlKeeper<F> {
             faults: 0,
         })
     }
+
+    /// The keeper over what came of an opening, where its count goes on from this one. Refusals are counted in `faults`.
+    pub(crate) fn adopt_from(
+        alloc: Global,
+        opened: Result<Connection<F>, Error>,
+        count: u64,
+        faults: &mut u64,
+    ) -> Result<SqlKeeper<F>, KeepError>
+        ensures ok { IfOk result (λ keeper. keeper ≡ count) }
+        ensures count { faults.new ≡ faults_after faults.old result }
+    {
+        let connection = counted(opened, faults)?;
+        let mut keeper = SqlKeeper::adopt(alloc, connection, faults)?;
+        keeper.faults = count;
+        Ok(keeper)
+    }
 }
 
 impl<F: Alter> SqlKeeper<F> {
@@ -75,13 +92,6 @@ impl<F: Alter> SqlKeeper<F> {
         ensures later { self.old ≤ self.new }
     {
         counted(call.run(&mut self.connection), &mut self.faults)
-    }
-
-    /// Has its count go on from this one.
-    pub(crate) fn go_on_from(&mut self, faults: u64)
-        ensures { self.new ≡ faults }
-    {
-        self.faults = faults;
     }
 }
 
@@ -121,14 +131,40 @@ impl<F: Alter> Keeper for SqlKeeper<F> {
     }
 }
 
-impl SqlKeeper<FileStore<File>> {
-    ghost use Rattle.std.specs.Prelude.{◌≡◌};
+impl<D: Disk + Drop> SqlKeeper<FileStore<D>> {
+    ghost use Rattle.std.specs.Prelude.{◌≡◌, ◌≤◌, IfOk};
+    ghost use Rattle.gj_base.specs.Causes.{faults_after};
+
+    /// As `adopt_from`. A caller that knows the disks comes through here.
+    pub(crate) fn adopt_files(
+        alloc: Global,
+        opened: Result<Connection<FileStore<D>>, Error>,
+        count: u64,
+        faults: &mut u64,
+    ) -> Result<SqlKeeper<FileStore<D>>, KeepError>
+        ensures ok { IfOk result (λ keeper. keeper ≡ count) }
+        ensures count { faults.new ≡ faults_after faults.old result }
+    {
+        SqlKeeper::adopt_from(alloc, opened, count, faults)
+    }
+
+    /// As `run`. A caller that knows the disks comes through here.
+    pub(crate) fn run_files<C: Call>(&mut self, call: C) -> Result<C::Answer, KeepError>
+        ensures count { self.new ≡ faults_after self.old result }
+        ensures later { self.old ≤ self.new }
+    {
+        self.run(call)
+    }
 
     /// Copies the log beside the file into it, closes both, and gives the count. Where the copy fails, all is in the log.
     pub(crate) fn close(self) -> u64
         ensures { result ≡ self }
     {
-        let (connection, faults) = self.release();
+        let SqlKeeper {
+            connection,
+            alloc: _,
+            faults,
+        } = self;
         let _ = connection.close();
         faults
     }

@@ -34,6 +34,12 @@ fn make_table<F: Alter>(
     Ok(())
 }
 
+fn make_each<F: Alter>(store: &mut Transaction<'_, F>) -> Result<(), Error> {
+    make_table(store, "conf", CONF)?;
+    make_table(store, "kept", KEPT)?;
+    make_table(store, "kept2", KEPT2)
+}
+
 /// Makes the three tables of a store where they aren't there, in one transaction. Over a store that has them it writes
 /// nothing. It takes memory.
 pub fn make_tables<F: Alter>(connection: &mut Connection<F>) -> Result<(), Error>
@@ -43,8 +49,6 @@ pub fn make_tables<F: Alter>(connection: &mut Connection<F>) -> Result<(), Error
         return Err(IN_TRANSACTION);
     }
     let mut store = connection.transaction();
-    make_table(&mut store, "conf", CONF)?;
-    make_table(&mut store, "kept", KEPT)?;
-    make_table(&mut store, "kept2", KEPT2)?;
+    make_each(&mut store)?;
     store.commit()
 }

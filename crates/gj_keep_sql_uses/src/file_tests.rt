@@ -1,10 +1,12 @@
 //! A store in a file, and one in memory.
 //!
-//! What is done to a keeper is done through a borrow, over files of any type: a test that holds the keeper has few steps.
+//! What is done to a keeper is done through a borrow, over a store of any type, and of files over any disks: at their own
+//! types a step is dear to prove.
 
 use gj_base::{Item, KeepError, Keeper, Keepers, KeptConf, KeptItem, Kind, MAX_ID};
 use gj_keep_sql::{FileKeeper, SqlKeeper, SqlKeepers};
-use sqlite::{Alter, Connection, Error};
+use sqlite::{Alter, Connection, Error, FileStore};
+use sqlite_disk::Disk;
 use std::alloc::Global;
 use std::process::{self, Abort};
 use std::test::Fail;
@@ -113,15 +115,26 @@ fn write_first_version<F: Alter>(connection: &mut Connection<F>) -> Result<(), E
     )
 }
 
+fn write_first_on<D: Disk + Drop>(
+    opened: Result<Connection<FileStore<D>>, Error>,
+) -> Result<(), Error> {
+    let mut connection = opened?;
+    write_first_version(&mut connection)
+}
+
 fn write_first_file(rt: &HostRuntime, path: &str) -> Result<(), Error> {
-    write_first_version(&mut Connection::open(rt, path)?)
+    write_first_on(Connection::open(rt, path))
+}
+
+fn first_rows_on<D: Disk + Drop>(
+    opened: Result<Connection<FileStore<D>>, Error>,
+) -> Result<i64, Error> {
+    let mut connection = opened?;
+    number(&mut connection, "SELECT count(*) FROM kept")
 }
 
 fn first_rows_in(rt: &HostRuntime, path: &str) -> Result<i64, Error> {
-    number(
-        &mut Connection::open(rt, path)?,
-        "SELECT count(*) FROM kept",
-    )
+    first_rows_on(Connection::open(rt, path))
 }
 
 fn migrate(rt: &impl Abort, alloc: Global, keeper: &mut FileKeeper) -> Result<(), KeepError> {
