@@ -304,12 +304,9 @@ fn what_adopt_refuses_is_counted(rt: HostRuntime) -> Result<(), Fail> {
     Ok(())
 }
 
-/// Each of the paths is refused.
-fn refuse_each(rt: &HostRuntime, paths: &[&str]) {
-    for path in paths {
-        let refused = SqlKeepers::new(rt).keeper_at(rt.alloc(), path);
-        assert_eq!(rt; refused.err(), Some(KeepError::Failed), "{path}");
-    }
+/// Why the store at the path is refused.
+fn refusal_at(rt: &HostRuntime, path: &str) -> Option<KeepError> {
+    SqlKeepers::new(rt).keeper_at(rt.alloc(), path).err()
 }
 
 #[test]
@@ -326,17 +323,16 @@ fn what_is_no_store_is_a_fault_and_so_is_one_that_is_in_use(rt: HostRuntime) -> 
     let used = format!(in alloc; "{path}/used")?;
     let mut user = SqlKeepers::new(&rt);
     let keeper = user.keeper_at(alloc, used.as_str())?;
-    refuse_each(
-        &rt,
-        &[
-            path.as_str(),
-            text.as_str(),
-            missing.as_str(),
-            used.as_str(),
-            "",
-            ":memory:",
-        ],
-    );
+    for path in [
+        path.as_str(),
+        text.as_str(),
+        missing.as_str(),
+        used.as_str(),
+        "",
+        ":memory:",
+    ] {
+        assert_eq!(rt; refusal_at(&rt, path), Some(KeepError::Failed), "{path}");
+    }
     user.take_back(keeper);
     let keeper = user.keeper_at(alloc, used.as_str())?;
     user.take_back(keeper);
