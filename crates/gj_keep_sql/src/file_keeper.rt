@@ -11,9 +11,16 @@ use std::alloc::Global;
 use std::marker::Model;
 
 /// Keeps the window in an SQLite file. Contracts see the count of its faults.
-#[derive(Drop)]
 pub struct FileKeeper {
     keeper: SqlKeeper<FileStore<File>>,
+}
+
+// Written out, so that a caller doesn't prove again how each part is dropped.
+impl Drop for FileKeeper {
+    fn drop(self) {
+        let FileKeeper { keeper } = self;
+        keeper.let_go();
+    }
 }
 
 impl Model for FileKeeper {

@@ -13,11 +13,21 @@ use std::alloc::Global;
 use std::marker::Model;
 
 /// Keeps the window in the tables of a connection, of which `F` are the files. Contracts see the count of its faults.
-#[derive(Drop)]
 pub struct SqlKeeper<F: Alter> {
     connection: Connection<F>,
     pub(crate) alloc: Global,
     faults: u64,
+}
+
+// Written out, so that a caller doesn't prove again how each part is dropped.
+impl<F: Alter + Drop> Drop for SqlKeeper<F> {
+    fn drop(self) {
+        let SqlKeeper {
+            connection: _connection,
+            alloc: _,
+            faults: _,
+        } = self;
+    }
 }
 
 impl<F: Alter> Model for SqlKeeper<F> {
@@ -154,6 +164,11 @@ impl<D: Disk + Drop> SqlKeeper<FileStore<D>> {
         ensures later { self.old ≤ self.new }
     {
         self.run(call)
+    }
+
+    /// Drops it. A caller that knows the disks comes through here.
+    pub(crate) fn let_go(self) {
+        drop(self);
     }
 
     /// Copies the log beside the file into it, closes both, and gives the count. Where the copy fails, all is in the log.

@@ -115,26 +115,34 @@ fn write_first_version<F: Alter>(connection: &mut Connection<F>) -> Result<(), E
     )
 }
 
-fn write_first_on<D: Disk + Drop>(
-    opened: Result<Connection<FileStore<D>>, Error>,
-) -> Result<(), Error> {
+fn write_first_on<F: Alter + Drop>(opened: Result<Connection<F>, Error>) -> Result<(), Error> {
     let mut connection = opened?;
     write_first_version(&mut connection)
 }
 
-fn write_first_file(rt: &HostRuntime, path: &str) -> Result<(), Error> {
-    write_first_on(Connection::open(rt, path))
+fn write_first_over<D: Disk + Drop>(
+    opened: Result<Connection<FileStore<D>>, Error>,
+) -> Result<(), Error> {
+    write_first_on(opened)
 }
 
-fn first_rows_on<D: Disk + Drop>(
-    opened: Result<Connection<FileStore<D>>, Error>,
-) -> Result<i64, Error> {
+fn write_first_file(rt: &HostRuntime, path: &str) -> Result<(), Error> {
+    write_first_over(Connection::open(rt, path))
+}
+
+fn first_rows_on<F: Alter + Drop>(opened: Result<Connection<F>, Error>) -> Result<i64, Error> {
     let mut connection = opened?;
     number(&mut connection, "SELECT count(*) FROM kept")
 }
 
+fn first_rows_over<D: Disk + Drop>(
+    opened: Result<Connection<FileStore<D>>, Error>,
+) -> Result<i64, Error> {
+    first_rows_on(opened)
+}
+
 fn first_rows_in(rt: &HostRuntime, path: &str) -> Result<i64, Error> {
-    first_rows_on(Connection::open(rt, path))
+    first_rows_over(Connection::open(rt, path))
 }
 
 fn migrate(rt: &impl Abort, alloc: Global, keeper: &mut FileKeeper) -> Result<(), KeepError> {

@@ -187,7 +187,7 @@ fn no_store(alloc: Global) -> Result<Disks, Fail> {
 }
 
 /// Writes a store of the first version, as that wrote it.
-fn write_first<F: Alter>(connection: &mut Connection<F>) -> Result<(), Error> {
+fn write_first<F: Alter + Drop>(mut connection: Connection<F>) -> Result<Connection<F>, Error> {
     connection.execute_batch(
         "CREATE TABLE conf (one INTEGER PRIMARY KEY CHECK (one = 1), version INTEGER NOT NULL,
            capacity INTEGER NOT NULL, segments INTEGER NOT NULL) STRICT;
@@ -196,15 +196,15 @@ fn write_first<F: Alter>(connection: &mut Connection<F>) -> Result<(), Error> {
          INSERT INTO conf (one, version, capacity, segments) VALUES (1, 1, 16, 1);
          INSERT INTO kept WITH RECURSIVE n (i) AS (SELECT 0 UNION ALL SELECT i + 1 FROM n)
            SELECT i, i % 3, i * 2, i % 5 FROM n LIMIT 16",
-    )
+    )?;
+    Ok(connection)
 }
 
 fn write_first_over<D: Disk + Drop>(alloc: Global, disks: Files<D>) -> Result<Files<D>, Fail> {
-    let Ok(mut connection) = connect(alloc, disks) else {
+    let Ok(connection) = connect(alloc, disks) else {
         return Err("no file becomes a database".into());
     };
-    write_first(&mut connection)?;
-    Ok(give_back(connection))
+    Ok(give_back(write_first(connection)?))
 }
 
 fn first_store(alloc: Global) -> Result<Disks, Fail> {
