@@ -2,6 +2,7 @@
 ghost use Rattle.std.specs.Prelude.{◌+◌, ◌^◌, ◌<◌, ◌≤◌, length};
 
 use crate::answers::IN_TRANSACTION;
+use crate::calls::Call;
 use crate::numbers::signed;
 use gj_base::{Item, KeptConf};
 use sqlite::{Alter, Connection, Error, Statement, Transaction, params};
@@ -15,12 +16,21 @@ pub const INSERT: &str =
 const TRIM: &str = "DELETE FROM kept2 WHERE place < ?1";
 
 /// Writes the configuration.
-pub fn write_conf<F: Alter>(connection: &mut Connection<F>, conf: KeptConf) -> Result<(), Error> {
-    let version = signed(conf.version, 0)?;
-    let capacity = signed(conf.capacity, 1)?;
-    let segments = signed(conf.segments, 2)?;
-    connection.execute(SET_CONF, params![version, capacity, segments])?;
-    Ok(())
+pub struct WriteConf {
+    pub conf: KeptConf,
+}
+
+impl Call for WriteConf {
+    type Answer = ();
+
+    fn run<F: Alter>(self, connection: &mut Connection<F>) -> Result<(), Error> {
+        let WriteConf { conf } = self;
+        let version = signed(conf.version, 0)?;
+        let capacity = signed(conf.capacity, 1)?;
+        let segments = signed(conf.segments, 2)?;
+        connection.execute(SET_CONF, params![version, capacity, segments])?;
+        Ok(())
+    }
 }
 
 /// Writes a row by `INSERT`, whose parameters are in its order.
@@ -47,28 +57,54 @@ fn insert_item<F: Alter>(
     insert_row(batch, insert, [place as i64, user, post, kind, moment])
 }
 
-/// Writes the items at the places from `from` on, in one transaction.
-pub fn append_rows<F: Alter>(
-    connection: &mut Connection<F>,
+fn insert_items<F: Alter>(
+    batch: &mut Transaction<'_, F>,
+    insert: &Statement,
     from: u64,
     items: &[Item],
 ) -> Result<(), Error>
     requires { from + length items.now ≤ 2 ^ 48 }
 {
-    if !connection.is_autocommit() {
-        return Err(IN_TRANSACTION);
-    }
-    let mut batch = connection.transaction();
-    let insert = batch.prepare(INSERT)?;
     for i in 0..items.len() {
-        insert_item(&mut batch, &insert, from + i as u64, items[i])?;
+        insert_item(batch, insert, from + i as u64, items[i])?;
     }
-    batch.commit()
+    Ok(())
+}
+
+/// Writes the items at the places from `from` on, in one transaction.
+pub struct AppendRows<'a> {
+    pub from: u64,
+    pub items: &'a [Item],
+    ghost room: { from + length items.now ≤ 2 ^ 48 },
+}
+
+impl Call for AppendRows<'_> {
+    type Answer = ();
+
+    fn run<F: Alter>(self, connection: &mut Connection<F>) -> Result<(), Error> {
+        let AppendRows { from, items } = self;
+        if !connection.is_autocommit() {
+            return Err(IN_TRANSACTION);
+        }
+        let mut batch = connection.transaction();
+        let insert = batch.prepare(INSERT)?;
+        insert_items(&mut batch, &insert, from, items)?;
+        batch.commit()
+    }
 }
 
 /// Drops the rows below the place.
-pub fn drop_below<F: Alter>(connection: &mut Connection<F>, below: u64) -> Result<(), Error> {
-    let below = signed(below, 0)?;
-    connection.execute(TRIM, params![below])?;
-    Ok(())
+pub struct DropBelow {
+    pub below: u64,
+}
+
+impl Call for DropBelow {
+    type Answer = ();
+
+    fn run<F: Alter>(self, connection: &mut Connection<F>) -> Result<(), Error> {
+        let DropBelow { below } = self;
+        let below = signed(below, 0)?;
+        connection.execute(TRIM, params![below])?;
+        Ok(())
+    }
 }

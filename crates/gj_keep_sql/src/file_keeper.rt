@@ -1,15 +1,26 @@
 //! A keeper over a file.
 
+use crate::append::{AppendRows, DropBelow, WriteConf};
+use crate::calls::Call;
+use crate::migrate::Migrate;
+use crate::reading::{ReadConf, ReadRows};
 use crate::sql_keeper::SqlKeeper;
 use gj_base::{Item, KeepError, Keeper, KeptConf, KeptItem};
-use sqlite::{File, FileStore};
+use sqlite::{Connection, File, FileStore};
 use std::alloc::Global;
 use std::marker::Model;
 
 /// Keeps the window in an SQLite file. Contracts see the count of its faults.
-#[derive(Drop)]
 pub struct FileKeeper {
     keeper: SqlKeeper<FileStore<File>>,
+}
+
+// Written out, so that a caller doesn't prove again how each part is dropped.
+impl Drop for FileKeeper {
+    fn drop(self) {
+        let FileKeeper { keeper } = self;
+        keeper.let_go();
+    }
 }
 
 impl Model for FileKeeper {
@@ -21,13 +32,24 @@ impl Model for FileKeeper {
 }
 
 impl FileKeeper {
-    ghost use Rattle.std.specs.Prelude.{◌≡◌};
+    ghost use Rattle.std.specs.Prelude.{◌≡◌, ◌≤◌, IfOk};
+    ghost use Rattle.gj_base.specs.Causes.{faults_after};
 
-    /// The keeper over a connection to the file.
-    pub(crate) fn over(keeper: SqlKeeper<FileStore<File>>) -> FileKeeper
-        ensures { result ≡ keeper }
+    /// The keeper over the file at the path, which is made where it isn't there. Its count goes on from this one; refusals
+    /// are counted in `faults`.
+    pub(crate) fn open(
+        rt: &HostRuntime,
+        alloc: Global,
+        path: &str,
+        count: u64,
+        faults: &mut u64,
+    ) -> Result<FileKeeper, KeepError>
+        ensures ok { IfOk result (λ keeper. keeper ≡ count) }
+        ensures count { faults.new ≡ faults_after faults.old result }
     {
-        FileKeeper { keeper }
+        let opened = Connection::open(rt, path);
+        let keeper = SqlKeeper::adopt_files(alloc, opened, count, faults)?;
+        Ok(FileKeeper { keeper })
     }
 
     /// Copies the log beside the file into it, closes both, and gives the count. Where the copy fails, all is in the log.
@@ -36,6 +58,14 @@ impl FileKeeper {
     {
         let FileKeeper { keeper } = self;
         keeper.close()
+    }
+
+    /// Makes the call. Each call comes through here, so that the connection's type is met in one proof alone.
+    fn run<C: Call>(&mut self, call: C) -> Result<C::Answer, KeepError>
+        ensures count { self.new ≡ faults_after self.old result }
+        ensures later { self.old ≤ self.new }
+    {
+        self.keeper.run_files(call)
     }
 }
 
@@ -51,26 +81,28 @@ impl Keeper for FileKeeper {
     ghost steady = { λ _. false };
 
     fn conf(&mut self) -> Result<Option<KeptConf>, KeepError> {
-        self.keeper.conf()
+        self.run(ReadConf)
     }
 
     fn set_conf(&mut self, conf: KeptConf) -> Result<(), KeepError> {
-        self.keeper.set_conf(conf)
+        self.run(WriteConf { conf })
     }
 
     fn rows(&mut self, alloc: Global) -> Result<Vec<KeptItem>, KeepError> {
-        self.keeper.rows(alloc)
+        self.run(ReadRows { alloc })
     }
 
     fn append(&mut self, from: u64, items: &[Item]) -> Result<(), KeepError> {
-        self.keeper.append(from, items)
+        self.run(AppendRows { from, items })
     }
 
     fn trim(&mut self, below: u64) -> Result<(), KeepError> {
-        self.keeper.trim(below)
+        self.run(DropBelow { below })
     }
 
     fn migrate(&mut self) -> Result<(), KeepError> {
-        self.keeper.migrate()
+        self.run(Migrate {
+            alloc: self.keeper.alloc,
+        })
     }
 }

@@ -6,18 +6,16 @@
 
 mod answers;
 mod append;
+mod calls;
 mod file_keeper;
 mod migrate;
 mod numbers;
 mod reading;
 mod sql_keeper;
 mod sql_keepers;
-#[cfg(test)]
-mod stop_tests;
 mod tables;
-#[cfg(test)]
-mod tests;
 
 pub use file_keeper::FileKeeper;
 pub use sql_keeper::SqlKeeper;
 pub use sql_keepers::SqlKeepers;
+pub use tables::make_tables;

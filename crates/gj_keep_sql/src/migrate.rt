@@ -2,10 +2,11 @@
 
 use crate::answers::IN_TRANSACTION;
 use crate::append::{INSERT, insert_row};
+use crate::calls::Call;
 use crate::numbers::{number_at, unsigned_at};
 use crate::reading::CONF;
 use gj_base::FIRST_VERSION;
-use sqlite::{Alter, Connection, Error, Row, Transaction};
+use sqlite::{Alter, Connection, Error, Row, Rows, Statement, Transaction};
 use std::alloc::Global;
 
 const FIRST_ROWS: &str = "SELECT place, usr, post, kind FROM kept ORDER BY place";
@@ -44,43 +45,75 @@ fn is_first_version<F: Alter>(store: &mut Transaction<'_, F>) -> Result<bool, Er
     }
 }
 
-fn first_rows<F: Alter>(
-    store: &mut Transaction<'_, F>,
-    alloc: Global,
-) -> Result<Vec<FirstRow>, Error> {
-    let mut kept = Vec::new(alloc);
-    let mut rows = store.query(FIRST_ROWS, &[])?;
+/// Adds the rows that are left, one at a time.
+fn read_first<F: Alter>(rows: &mut Rows<'_, F>, kept: &mut Vec<FirstRow>) -> Result<(), Error> {
     for _ in 0..u64::MAX {
         let Some(row) = rows.next()? else {
             break;
         };
         kept.push(first_row(row)?)?;
     }
+    Ok(())
+}
+
+fn first_rows<F: Alter>(
+    store: &mut Transaction<'_, F>,
+    alloc: Global,
+) -> Result<Vec<FirstRow>, Error> {
+    let mut kept = Vec::new(alloc);
+    let mut rows = store.query(FIRST_ROWS, &[])?;
+    read_first(&mut rows, &mut kept)?;
     Ok(kept)
+}
+
+fn insert_first<F: Alter>(
+    store: &mut Transaction<'_, F>,
+    insert: &Statement,
+    rows: &[FirstRow],
+) -> Result<(), Error> {
+    for row in rows {
+        insert_row(store, insert, [row.place, row.user, row.post, row.kind, 0])?;
+    }
+    Ok(())
 }
 
 /// Writes the rows under the second version, with the moment 0.
 fn write_rows<F: Alter>(store: &mut Transaction<'_, F>, rows: &[FirstRow]) -> Result<(), Error> {
     let insert = store.prepare(INSERT)?;
-    for row in rows {
-        insert_row(store, &insert, [row.place, row.user, row.post, row.kind, 0])?;
-    }
+    insert_first(store, &insert, rows)
+}
+
+fn move_rows<F: Alter>(store: &mut Transaction<'_, F>, alloc: Global) -> Result<(), Error> {
+    let rows = first_rows(store, alloc)?;
+    write_rows(store, &rows)
+}
+
+fn bring_to_second<F: Alter>(store: &mut Transaction<'_, F>, alloc: Global) -> Result<(), Error> {
+    move_rows(store, alloc)?;
+    store.execute(EMPTY, &[])?;
+    store.execute(SECOND_VERSION, &[])?;
     Ok(())
 }
 
 /// Where the version is the first, writes its rows under the second, in one transaction. A row with a negative number
 /// is refused.
-pub fn migrate_rows<F: Alter>(connection: &mut Connection<F>, alloc: Global) -> Result<(), Error> {
-    if !connection.is_autocommit() {
-        return Err(IN_TRANSACTION);
+pub struct Migrate {
+    pub alloc: Global,
+}
+
+impl Call for Migrate {
+    type Answer = ();
+
+    fn run<F: Alter>(self, connection: &mut Connection<F>) -> Result<(), Error> {
+        let Migrate { alloc } = self;
+        if !connection.is_autocommit() {
+            return Err(IN_TRANSACTION);
+        }
+        let mut store = connection.transaction();
+        if !is_first_version(&mut store)? {
+            return Ok(());
+        }
+        bring_to_second(&mut store, alloc)?;
+        store.commit()
     }
-    let mut store = connection.transaction();
-    if !is_first_version(&mut store)? {
-        return Ok(());
-    }
-    let rows = first_rows(&mut store, alloc)?;
-    write_rows(&mut store, &rows)?;
-    store.execute(EMPTY, &[])?;
-    store.execute(SECOND_VERSION, &[])?;
-    store.commit()
 }

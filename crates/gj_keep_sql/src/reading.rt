@@ -1,8 +1,9 @@
 //! What a store holds, read.
 
+use crate::calls::Call;
 use crate::numbers::number_at;
 use gj_base::{KeptConf, KeptItem};
-use sqlite::{Alter, Connection, Error, Row};
+use sqlite::{Alter, Connection, Error, Row, Rows};
 use std::alloc::Global;
 
 /// The configuration.
@@ -18,12 +19,19 @@ fn conf_of(row: &Row) -> Result<KeptConf, Error> {
     })
 }
 
-/// The configuration, where one is kept.
-pub fn kept_conf<F: Alter>(connection: &mut Connection<F>) -> Result<Option<KeptConf>, Error> {
-    match connection.query_row(CONF, &[]) {
-        Ok(row) => Ok(Some(conf_of(&row)?)),
-        Err(Error::QueryReturnedNoRows) => Ok(None),
-        Err(error) => Err(error),
+/// Reads the configuration, where one is kept.
+pub struct ReadConf;
+
+impl Call for ReadConf {
+    type Answer = Option<KeptConf>;
+
+    fn run<F: Alter>(self, connection: &mut Connection<F>) -> Result<Option<KeptConf>, Error> {
+        let ReadConf = self;
+        match connection.query_row(CONF, &[]) {
+            Ok(row) => Ok(Some(conf_of(&row)?)),
+            Err(Error::QueryReturnedNoRows) => Ok(None),
+            Err(error) => Err(error),
+        }
     }
 }
 
@@ -37,18 +45,30 @@ fn kept_item(row: &Row) -> Result<KeptItem, Error> {
     })
 }
 
-/// All rows of the second version, by their places. They are read one at a time.
-pub fn kept_rows<F: Alter>(
-    connection: &mut Connection<F>,
-    alloc: Global,
-) -> Result<Vec<KeptItem>, Error> {
-    let mut kept = Vec::new(alloc);
-    let mut rows = connection.query(ROWS, &[])?;
+/// Adds the rows that are left, one at a time.
+fn read_rows<F: Alter>(rows: &mut Rows<'_, F>, kept: &mut Vec<KeptItem>) -> Result<(), Error> {
     for _ in 0..u64::MAX {
         let Some(row) = rows.next()? else {
             break;
         };
         kept.push(kept_item(row)?)?;
     }
-    Ok(kept)
+    Ok(())
+}
+
+/// Reads all rows of the second version, by their places.
+pub struct ReadRows {
+    pub alloc: Global,
+}
+
+impl Call for ReadRows {
+    type Answer = Vec<KeptItem>;
+
+    fn run<F: Alter>(self, connection: &mut Connection<F>) -> Result<Vec<KeptItem>, Error> {
+        let ReadRows { alloc } = self;
+        let mut kept = Vec::new(alloc);
+        let mut rows = connection.query(ROWS, &[])?;
+        read_rows(&mut rows, &mut kept)?;
+        Ok(kept)
+    }
 }

@@ -1,21 +1,33 @@
 //! A keeper over one connection.
 
 use crate::answers::counted;
-use crate::append::{append_rows, drop_below, write_conf};
-use crate::migrate::migrate_rows;
-use crate::reading::{kept_conf, kept_rows};
+use crate::append::{AppendRows, DropBelow, WriteConf};
+use crate::calls::Call;
+use crate::migrate::Migrate;
+use crate::reading::{ReadConf, ReadRows};
 use crate::tables::make_tables;
 use gj_base::{Item, KeepError, Keeper, KeptConf, KeptItem};
-use sqlite::{Alter, Connection, File, FileStore};
+use sqlite::{Alter, Connection, Error, FileStore};
+use sqlite_disk::Disk;
 use std::alloc::Global;
 use std::marker::Model;
 
 /// Keeps the window in the tables of a connection, of which `F` are the files. Contracts see the count of its faults.
-#[derive(Drop)]
 pub struct SqlKeeper<F: Alter> {
     connection: Connection<F>,
-    alloc: Global,
+    pub(crate) alloc: Global,
     faults: u64,
+}
+
+// Written out, so that a caller doesn't prove again how each part is dropped.
+impl<F: Alter + Drop> Drop for SqlKeeper<F> {
+    fn drop(self) {
+        let SqlKeeper {
+            connection: _connection,
+            alloc: _,
+            faults: _,
+        } = self;
+    }
 }
 
 impl<F: Alter> Model for SqlKeeper<F> {
@@ -51,22 +63,45 @@ impl<F: Alter + Drop> SqlKeeper<F> {
         })
     }
 
-    /// The connection, for a test that looks at what is left.
-    #[cfg(test)]
-    pub(crate) fn into_connection(self) -> Connection<F> {
+    /// The keeper over what came of an opening, where its count goes on from this one. Refusals are counted in `faults`.
+    pub(crate) fn adopt_from(
+        alloc: Global,
+        opened: Result<Connection<F>, Error>,
+        count: u64,
+        faults: &mut u64,
+    ) -> Result<SqlKeeper<F>, KeepError>
+        ensures ok { IfOk result (λ keeper. keeper ≡ count) }
+        ensures count { faults.new ≡ faults_after faults.old result }
+    {
+        let connection = counted(opened, faults)?;
+        let mut keeper = SqlKeeper::adopt(alloc, connection, faults)?;
+        keeper.faults = count;
+        Ok(keeper)
+    }
+}
+
+impl<F: Alter> SqlKeeper<F> {
+    ghost use Rattle.std.specs.Prelude.{◌≡◌, ◌≤◌};
+    ghost use Rattle.gj_base.specs.Causes.{faults_after};
+
+    /// The connection, for a caller that goes on without a keeper, and the count of the keeper's faults.
+    pub fn release(self) -> (Connection<F>, u64)
+        ensures { result.1 ≡ self }
+    {
         let SqlKeeper {
             connection,
             alloc: _,
-            faults: _,
+            faults,
         } = self;
-        connection
+        (connection, faults)
     }
 
-    /// Has its count go on from this one.
-    pub(crate) fn go_on_from(&mut self, faults: u64)
-        ensures { self.new ≡ faults }
+    /// Makes the call, and counts a refusal, unless it is for want of memory.
+    pub(crate) fn run<C: Call>(&mut self, call: C) -> Result<C::Answer, KeepError>
+        ensures count { self.new ≡ faults_after self.old result }
+        ensures later { self.old ≤ self.new }
     {
-        self.faults = faults;
+        counted(call.run(&mut self.connection), &mut self.faults)
     }
 }
 
@@ -82,38 +117,59 @@ impl<F: Alter> Keeper for SqlKeeper<F> {
     ghost steady = { λ _. false };
 
     fn conf(&mut self) -> Result<Option<KeptConf>, KeepError> {
-        counted(kept_conf(&mut self.connection), &mut self.faults)
+        self.run(ReadConf)
     }
 
     fn set_conf(&mut self, conf: KeptConf) -> Result<(), KeepError> {
-        counted(write_conf(&mut self.connection, conf), &mut self.faults)
+        self.run(WriteConf { conf })
     }
 
     fn rows(&mut self, alloc: Global) -> Result<Vec<KeptItem>, KeepError> {
-        counted(kept_rows(&mut self.connection, alloc), &mut self.faults)
+        self.run(ReadRows { alloc })
     }
 
     fn append(&mut self, from: u64, items: &[Item]) -> Result<(), KeepError> {
-        counted(
-            append_rows(&mut self.connection, from, items),
-            &mut self.faults,
-        )
+        self.run(AppendRows { from, items })
     }
 
     fn trim(&mut self, below: u64) -> Result<(), KeepError> {
-        counted(drop_below(&mut self.connection, below), &mut self.faults)
+        self.run(DropBelow { below })
     }
 
     fn migrate(&mut self) -> Result<(), KeepError> {
-        counted(
-            migrate_rows(&mut self.connection, self.alloc),
-            &mut self.faults,
-        )
+        self.run(Migrate { alloc: self.alloc })
     }
 }
 
-impl SqlKeeper<FileStore<File>> {
-    ghost use Rattle.std.specs.Prelude.{◌≡◌};
+impl<D: Disk + Drop> SqlKeeper<FileStore<D>> {
+    ghost use Rattle.std.specs.Prelude.{◌≡◌, ◌≤◌, IfOk};
+    ghost use Rattle.gj_base.specs.Causes.{faults_after};
+
+    /// As `adopt_from`. A caller that knows the disks comes through here.
+    pub(crate) fn adopt_files(
+        alloc: Global,
+        opened: Result<Connection<FileStore<D>>, Error>,
+        count: u64,
+        faults: &mut u64,
+    ) -> Result<SqlKeeper<FileStore<D>>, KeepError>
+        ensures ok { IfOk result (λ keeper. keeper ≡ count) }
+        ensures count { faults.new ≡ faults_after faults.old result }
+    {
+        SqlKeeper::adopt_from(alloc, opened, count, faults)
+    }
+
+    /// As `run`. A caller that knows the disks comes through here.
+    pub(crate) fn run_files<C: Call>(&mut self, call: C) -> Result<C::Answer, KeepError>
+        ensures count { self.new ≡ faults_after self.old result }
+        ensures later { self.old ≤ self.new }
+    {
+        self.run(call)
+    }
+
+    /// Drops it. A caller that knows the disks comes through here.
+    pub(crate) fn let_go(self) {
+        drop(self);
+    }
 
     /// Copies the log beside the file into it, closes both, and gives the count. Where the copy fails, all is in the log.
     pub(crate) fn close(self) -> u64

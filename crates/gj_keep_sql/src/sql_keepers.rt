@@ -1,10 +1,7 @@
 //! Where the keeper over a file is found by its path.
 
-use crate::answers::counted;
 use crate::file_keeper::FileKeeper;
-use crate::sql_keeper::SqlKeeper;
 use gj_base::{KeepError, Keepers};
-use sqlite::{Connection, File, FileStore};
 use std::alloc::Global;
 use std::marker::Model;
 
@@ -29,8 +26,7 @@ impl<'rt> Model for SqlKeepers<'rt> {
 }
 
 impl<'rt> SqlKeepers<'rt> {
-    ghost use Rattle.std.specs.Prelude.{◌≡◌, IfOk, true};
-    ghost use Rattle.gj_base.specs.Causes.{faults_after};
+    ghost use Rattle.std.specs.Prelude.{◌≡◌, true};
 
     /// Its keeper is at home, and no call has failed yet.
     pub fn new(rt: &'rt HostRuntime) -> Self
@@ -42,14 +38,6 @@ impl<'rt> SqlKeepers<'rt> {
             own: 0,
             kept: 0,
         }
-    }
-
-    fn open(&mut self, alloc: Global, path: &str) -> Result<SqlKeeper<FileStore<File>>, KeepError>
-        ensures ok { IfOk result (λ keeper. keeper ≡ 0) }
-        ensures count { self.new ≡ record self.old { own = faults_after self.old.own result } }
-    {
-        let connection = counted(Connection::open(self.rt, path), &mut self.own)?;
-        SqlKeeper::adopt(alloc, connection, &mut self.own)
     }
 }
 
@@ -70,10 +58,9 @@ impl<'rt> Keepers for SqlKeepers<'rt> {
     ghost steady = { λ _. false };
 
     fn keeper_at(&mut self, alloc: Global, path: &str) -> Result<FileKeeper, KeepError> {
-        let mut keeper = self.open(alloc, path)?;
-        keeper.go_on_from(self.kept);
+        let keeper = FileKeeper::open(self.rt, alloc, path, self.kept, &mut self.own)?;
         self.home = false;
-        Ok(FileKeeper::over(keeper))
+        Ok(keeper)
     }
 
     fn take_back(&mut self, kept: FileKeeper) {

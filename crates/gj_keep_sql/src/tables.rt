@@ -1,7 +1,9 @@
 //! The tables of a store, each made where it isn't there.
+ghost use Rattle.std.specs.Prelude.{◌≡◌, IsTrue};
+ghost use Rattle.sqlite.specs.Held.{state};
 
 use crate::answers::IN_TRANSACTION;
-use sqlite::{Alter, Connection, Error, Transaction, params};
+use sqlite::{Alter, Connection, Error, ErrorCode, Transaction, params};
 
 /// The version of the layout and the configuration, in one row.
 const CONF: &str =
@@ -32,14 +34,21 @@ fn make_table<F: Alter>(
     Ok(())
 }
 
-/// Makes the three tables, in one transaction.
-pub fn make_tables<F: Alter>(connection: &mut Connection<F>) -> Result<(), Error> {
+fn make_each<F: Alter>(store: &mut Transaction<'_, F>) -> Result<(), Error> {
+    make_table(store, "conf", CONF)?;
+    make_table(store, "kept", KEPT)?;
+    make_table(store, "kept2", KEPT2)
+}
+
+/// Makes the three tables of a store where they aren't there, in one transaction. Over a store that has them it writes
+/// nothing. It takes memory.
+pub fn make_tables<F: Alter>(connection: &mut Connection<F>) -> Result<(), Error>
+    ensures refused { IsTrue (state F.Store connection.old).in_transaction → (result ≡ Err (Error.SqliteFailure ErrorCode.TransactionState)) × (connection.new ≡ connection.old) }
+{
     if !connection.is_autocommit() {
         return Err(IN_TRANSACTION);
     }
     let mut store = connection.transaction();
-    make_table(&mut store, "conf", CONF)?;
-    make_table(&mut store, "kept", KEPT)?;
-    make_table(&mut store, "kept2", KEPT2)?;
+    make_each(&mut store)?;
     store.commit()
 }

@@ -1,8 +1,7 @@
 //! A store over disks in memory, stopped at each call of a disk in turn.
-use crate::SqlKeeper;
-use crate::tables::make_tables;
 use gj_base::{Item, KeepError, Keeper, KeptConf, KeptItem, Kind};
-use sqlite::{Alter, Connection, FileStore, Files, Options};
+use gj_keep_sql::{SqlKeeper, make_tables};
+use sqlite::{Alter, Connection, Error, FileStore, Files, Options};
 use sqlite_disk::{Crash, Disk, Fuse, Memory};
 use std::alloc::Global;
 use std::process::Abort;
@@ -16,17 +15,18 @@ const CONF: KeptConf = KeptConf {
 
 type Disks = Files<Fuse<Memory>>;
 
-type StoppingKeeper = SqlKeeper<FileStore<Fuse<Memory>>>;
-
 /// What came of a run over disks that stop: the last length that was answered, whether nothing stopped it, and the disks.
 #[derive(Drop)]
-struct Run {
+struct Run<D: Disk> {
     length: u64,
     whole: bool,
-    disks: Disks,
+    disks: Files<D>,
 }
 
-fn connect(alloc: Global, disks: Disks) -> Result<Connection<FileStore<Fuse<Memory>>>, Disks> {
+fn connect<D: Disk + Drop>(
+    alloc: Global,
+    disks: Files<D>,
+) -> Result<Connection<FileStore<D>>, Files<D>> {
     if !disks.may_be_used() {
         return Err(disks);
     }
@@ -38,26 +38,21 @@ fn connect(alloc: Global, disks: Disks) -> Result<Connection<FileStore<Fuse<Memo
     }
 }
 
-fn give_back(connection: Connection<FileStore<Fuse<Memory>>>) -> Disks {
+fn give_back<D: Disk + Drop>(connection: Connection<FileStore<D>>) -> Files<D> {
     connection.into_store().close()
 }
 
-/// The keeper over the disks, or the disks where they stopped before. Over a store that has its tables, `adopt` calls
-/// no disk.
-fn keeper_over(alloc: Global, disks: Disks) -> Result<Result<StoppingKeeper, Disks>, KeepError> {
-    let mut connection = match connect(alloc, disks) {
-        Ok(connection) => connection,
-        Err(disks) => return Ok(Err(disks)),
-    };
+/// The keeper over the connection, or the connection where its disks stopped before. Over a store that has its tables,
+/// `adopt` calls no disk.
+fn keeper_on<F: Alter + Drop>(
+    alloc: Global,
+    mut connection: Connection<F>,
+) -> Result<Result<SqlKeeper<F>, Connection<F>>, KeepError> {
     if make_tables(&mut connection).is_err() {
-        return Ok(Err(give_back(connection)));
+        return Ok(Err(connection));
     }
     let mut faults = 0;
     Ok(Ok(SqlKeeper::adopt(alloc, connection, &mut faults)?))
-}
-
-fn disks_of(keeper: StoppingKeeper) -> Disks {
-    give_back(keeper.into_connection())
 }
 
 /// What is done over the disks.
@@ -136,14 +131,36 @@ fn work_on<F: Alter>(
     }
 }
 
-fn run_over(rt: &impl Abort, alloc: Global, disks: Disks, work: Work) -> Result<Run, Fail> {
-    match keeper_over(alloc, disks)? {
+/// The same over a connection, which is given back.
+fn work_through<F: Alter + Drop>(
+    rt: &impl Abort,
+    alloc: Global,
+    connection: Connection<F>,
+    work: Work,
+) -> Result<(u64, bool, Connection<F>), Fail> {
+    match keeper_on(alloc, connection)? {
         Ok(mut keeper) => {
             let (length, whole) = work_on(rt, alloc, &mut keeper, work)?;
+            let (connection, _) = keeper.release();
+            Ok((length, whole, connection))
+        }
+        Err(connection) => Ok((0, false, connection)),
+    }
+}
+
+fn run_over<D: Disk + Drop>(
+    rt: &impl Abort,
+    alloc: Global,
+    disks: Files<D>,
+    work: Work,
+) -> Result<Run<D>, Fail> {
+    match connect(alloc, disks) {
+        Ok(connection) => {
+            let (length, whole, connection) = work_through(rt, alloc, connection, work)?;
             Ok(Run {
                 length,
                 whole,
-                disks: disks_of(keeper),
+                disks: give_back(connection),
             })
         }
         Err(disks) => Ok(Run {
@@ -169,11 +186,8 @@ fn no_store(alloc: Global) -> Result<Disks, Fail> {
     })
 }
 
-/// A store of the first version, as that wrote it.
-fn first_store(alloc: Global) -> Result<Disks, Fail> {
-    let Ok(mut connection) = connect(alloc, no_store(alloc)?) else {
-        return Err("no file becomes a database".into());
-    };
+/// Writes a store of the first version, as that wrote it.
+fn write_first<F: Alter + Drop>(mut connection: Connection<F>) -> Result<Connection<F>, Error> {
     connection.execute_batch(
         "CREATE TABLE conf (one INTEGER PRIMARY KEY CHECK (one = 1), version INTEGER NOT NULL,
            capacity INTEGER NOT NULL, segments INTEGER NOT NULL) STRICT;
@@ -183,7 +197,18 @@ fn first_store(alloc: Global) -> Result<Disks, Fail> {
          INSERT INTO kept WITH RECURSIVE n (i) AS (SELECT 0 UNION ALL SELECT i + 1 FROM n)
            SELECT i, i % 3, i * 2, i % 5 FROM n LIMIT 16",
     )?;
-    Ok(give_back(connection))
+    Ok(connection)
+}
+
+fn write_first_over<D: Disk + Drop>(alloc: Global, disks: Files<D>) -> Result<Files<D>, Fail> {
+    let Ok(connection) = connect(alloc, disks) else {
+        return Err("no file becomes a database".into());
+    };
+    Ok(give_back(write_first(connection)?))
+}
+
+fn first_store(alloc: Global) -> Result<Disks, Fail> {
+    write_first_over(alloc, no_store(alloc)?)
 }
 
 /// Copies of the disks, of which the one with the log or the other stops after so many calls.
@@ -200,18 +225,31 @@ fn stopping(alloc: Global, disks: &Disks, log_stops: bool, calls: u64) -> Result
 }
 
 /// The version and the rows that the keeper has, which it migrates.
-fn migrated(alloc: Global, keeper: &mut StoppingKeeper) -> Result<(u64, Vec<KeptItem>), KeepError> {
+fn migrated<F: Alter>(
+    alloc: Global,
+    keeper: &mut SqlKeeper<F>,
+) -> Result<(u64, Vec<KeptItem>), KeepError> {
     let version = keeper.conf()?.map_or(0, |conf| conf.version);
     keeper.migrate()?;
     Ok((version, keeper.rows(alloc)?))
 }
 
-/// The version and the rows that a next run finds, which migrates them.
-fn found(alloc: Global, disks: Disks) -> Result<(u64, Vec<KeptItem>), Fail> {
-    let Ok(mut keeper) = keeper_over(alloc, disks)? else {
+/// The version and the rows that a next run finds through the connection, which migrates them.
+fn found_through<F: Alter + Drop>(
+    alloc: Global,
+    connection: Connection<F>,
+) -> Result<(u64, Vec<KeptItem>), Fail> {
+    let Ok(mut keeper) = keeper_on(alloc, connection)? else {
         return Err("what is left is a database".into());
     };
     Ok(migrated(alloc, &mut keeper)?)
+}
+
+fn found<D: Disk + Drop>(alloc: Global, disks: Files<D>) -> Result<(u64, Vec<KeptItem>), Fail> {
+    let Ok(connection) = connect(alloc, disks) else {
+        return Err("what is left is a database".into());
+    };
+    found_through(alloc, connection)
 }
 
 /// What is found after a kill, which leaves what was written, and after a loss of power, which leaves what was synced.
