@@ -16,6 +16,6 @@ returns c = record {
   taken = tt;
   rows = tt;
   usage = λ usage.
-    let same : c.why_of.result ≡ Usage = cc in
-    refused_of _ _ (c.why_of.ensures.usage same) (c.in-Err.ensures.kinds c.requires);
+      let same : c.why_of.result ≡ Usage = cc in
+      refused_of _ _ (c.why_of.ensures.usage same) (c.in-Err.ensures.kinds c.requires);
 }
