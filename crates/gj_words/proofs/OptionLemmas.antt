@@ -1,9 +1,12 @@
 -- The options of the commands, and their values.
-use Rattle.std.proofs.Common.{◌≡◌, ℕ, ◌&&◌, Bool, true, false, List, [], ◌∷◌, length, refl, sym, ◌∙◌, arith}
-use Rattle.std.specs.Prelude.{Option, Some, None, if◌then◌else◌}
+use Rattle.std.proofs.Common.{◌≡◌, ℕ, ◌&&◌, Bool, true, false, List, [], ◌∷◌, length, refl, sym, arith, inl, inr, ◌⊎◌, ne_eqb}
+use Rattle.std.specs.Prelude.{Option, Some, None}
 use Rattle.clap.specs.Faults.{fault_of, is_simple_and_free}
+use Rattle.clap.specs.Kinds.{IsAmong, Kinds}
 use Rattle.clap.specs.Simple.{App, matches_of}
 use Rattle.clap.specs.Walk.{Row, Text, is_empty}
+use Rattle.clap.specs.declared.error.kind.ErrorKind.{ErrorKind}
+use Rattle.clap.specs.declared.error.kind.ErrorKind.TheVariants.{OutOfMemory}
 use Rattle.gj_words.specs.Options.{replay_app, load_app, follow_app, serve_app}
 use Rattle.gj_words.specs.Tasks.{asked_of, service_of, under}
 use Rattle.gj_words.specs.Values.{path_in}
@@ -33,6 +36,12 @@ follow_simple = refl
 pub first_of_both : (a b : Bool) → (a && b) ≡ true → a ≡ true
 first_of_both true b e = refl
 first_of_both false b e = cc
+
+-- an error that isn't want of memory has a kind among the faults
+pub refused_of : (why : ErrorKind) (faults : Kinds) → (why ≡ OutOfMemory → ⊥) → (why ≡ OutOfMemory) ⊎ IsAmong why faults → is_empty faults ≡ false
+refused_of why (fault ∷ faults) other among = ne_eqb _ _ (λ same. omega arith)
+refused_of why [] other (inl memory) = absurd (other memory)
+refused_of why [] other (inr none) = absurd none
 
 -- without a first argument nothing is asked for
 pub none_asked : (words : List (List ℕ)) → length words ≡ 0 → asked_of words ≡ None

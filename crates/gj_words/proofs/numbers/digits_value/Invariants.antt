@@ -1,4 +1,4 @@
-use Rattle.std.proofs.Common.{◌≡◌, ◌^◌, ◌-◌, min, take}
+use Rattle.std.proofs.Common.{◌≡◌, min, take}
 use Rattle.gj_words.specs.Values.{digits_value}
 use Rattle.gj_words.proofs.numbers.digits_value.Given as goal
 

@@ -1,4 +1,4 @@
-use Rattle.std.proofs.Common.{◌≡◌, ◌∙◌, ℕ, List, [], ◌∷◌, map, length, string_bytes, ap, sym, subst, IfOk, IsErrOf}
+use Rattle.std.proofs.Common.{◌≡◌, ◌∙◌, ℕ, List, ◌∷◌, map, length, string_bytes, ap, sym, subst, IfOk, IsErrOf}
 use Rattle.std.specs.Prelude.{Some, None}
 use Rattle.std.proofs.lemmas.List.{length-map}
 use Rattle.gj_words.specs.Tasks.{asked_by, asked_of}
