@@ -7,6 +7,6 @@ pub trait Call {
     /// What it answers.
     type Answer;
 
-    /// Makes the call over the connection, which is in no transaction.
+    /// Makes the call over the connection.
     fn run<F: Alter>(self, connection: &mut Connection<F>) -> Result<Self::Answer, Error>;
 }
